@@ -14,16 +14,13 @@ use hc_shown::{FieldOf, Teller};
 use hc_update::{Stored, identifies};
 use std::alloc::{AllocError, Global};
 
-/// The field by which a 304 tells which response it is about.
+/// The field by which a 304 tells which response it is about: its ETag, or else its Last-Modified, or else the If-None-Match or
+/// the If-Modified-Since of its forward.
 #[derive(Clone, Copy)]
 pub enum Telling {
-    /// Its ETag.
     Tag,
-    /// Its Last-Modified, where it has no ETag.
     Modified,
-    /// The If-None-Match of its forward, where it has neither.
     AskedTag,
-    /// The If-Modified-Since of its forward, where that has no If-None-Match.
     AskedModified,
 }
 

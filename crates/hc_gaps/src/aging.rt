@@ -15,13 +15,9 @@ use hc_update::Stored;
 /// What the Age lines of a reply tell.
 #[derive(Clone, Copy)]
 pub enum AgeTold {
-    /// There is none.
     Missing,
-    /// There are several.
     Several,
-    /// The one that there is is no number.
     Unreadable,
-    /// So many seconds.
     Seconds(u32),
 }
 

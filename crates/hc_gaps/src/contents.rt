@@ -57,7 +57,6 @@ pub struct ContentGap {
     bodies: Option<BodyGap>,
 }
 
-// How many octets both begin with.
 fn octets_in_common(one: &[u8], other: &[u8]) -> u64 {
     let most = one.len().min(other.len());
     for place in 0..most {
@@ -130,7 +129,6 @@ impl Condition {
 }
 
 impl Content {
-    // What the reply is.
     fn read(claim: &ReplyClaim<'_>, state: &Stored) -> Self {
         let reply = claim.reply;
         let has_ranges = claim.settings.allowed.ranges;
@@ -296,7 +294,6 @@ impl ContentGap {
         }
     }
 
-    // Tells that no condition earns the 304.
     fn tell_unearned<T: Teller>(&self, pair: Pair<'_>, teller: &mut T) {
         teller.words("no condition earns the 304: ");
         match self.content {

@@ -5,7 +5,7 @@ ghost use Rattle.hc_history.specs.Filters.{compared_names, names_of};
 ghost use Rattle.hc_gaps.specs.Differing.{AreDifferences, AreListed, IsGap, change_of, differs, with_name, with_names};
 
 use crate::demand::Demand;
-use crate::forms::is_same_list;
+use crate::forms::means_the_same;
 use crate::newest::NAMED;
 use crate::rules::Pair;
 use hc_fields::{Field, Fields, Octets, is_among};
@@ -153,12 +153,18 @@ pub fn compare(
             found.more = found.more.saturating_add(1);
             continue;
         }
-        let (one, other) = (&claim.reply.head.fields, &state.fields);
+        // Each line of Set-Cookie means something by itself.
+        let is_form = *name != b"set-cookie".as_slice()
+            && means_the_same(
+                alloc,
+                name,
+                (&claim.reply.head.fields, &state.fields),
+                false,
+            )?;
         found.listed.push(FieldGap {
             name: Octets::from_slice(alloc, name)?,
             change: change_of(claim, state, name),
-            // Each line of Set-Cookie means something by itself.
-            is_form: *name != b"set-cookie".as_slice() && is_same_list(alloc, name, one, other)?,
+            is_form,
         })?;
     }
     Ok(found)
@@ -199,7 +205,6 @@ impl Differences {
         has_form && self.more == 0
     }
 
-    // Whether the Date differs.
     fn has_date(&self) -> bool {
         for gap in self.listed.iter() {
             if gap.name.as_slice() == b"date".as_slice() {
@@ -301,19 +306,21 @@ impl FieldsOrigin<'_> {
     // Tells of which record a value is that is due.
     fn say<T: Teller>(&self, name: &[u8], stored: &Fields, teller: &mut T) {
         let is_date = name == b"date".as_slice();
-        match (self.validator, self.first) {
-            (Some((validator, renewed)), _) if renewed.contains(name) => {
+        let came_otherwise = match self.first {
+            Some(first) => !first.values(name).eq(stored.values(name)),
+            None => false,
+        };
+        match self.validator {
+            Some((validator, renewed)) if renewed.contains(name) => {
                 teller.record(" (of the 304 ", validator);
                 teller.words(")");
             }
-            (Some((validator, _)), _) if is_date => {
+            Some((validator, _)) if is_date => {
                 teller.record(" (when the 304 ", validator);
                 teller.words(" came, which has no Date)");
             }
-            (Some(_), Some(first)) if !first.values(name).eq(stored.values(name)) => {
-                teller.words(" (of a 304 before that)");
-            }
-            (None, _) if is_date && self.is_undated() => {
+            Some(_) if came_otherwise => teller.words(" (of a 304 before that)"),
+            None if is_date && self.is_undated() => {
                 let after = " came, which has no Date)";
                 teller.count(" (when ", self.position, after);
             }
@@ -389,7 +396,6 @@ impl Differences {
         teller.say_more(self.more.saturating_add(unsaid));
     }
 
-    // Tells an object each that is listed.
     fn tell_listed<T: Teller>(&self, sides: Sides<'_>, teller: &mut T) {
         teller.fact("more_fields", self.more);
         teller.begin_list("fields");

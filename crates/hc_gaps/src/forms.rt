@@ -1,7 +1,6 @@
 //! Values that mean the same though they are written in other ways, and fields that a directive names.
 
 use hc_fields::{Fields, Octets, is_among, list_members};
-use hc_shown::FieldOf;
 use std::alloc::{AllocError, Global};
 
 /// The fields that are lists without an order, in which letters may be of either case (RFC 9110 section 12.5).
@@ -45,9 +44,8 @@ fn ends_at_separator(octets: &[u8]) -> bool {
     }
 }
 
-// Those octets without the blanks beside commas and semicolons, but for those in quoted strings.
-fn tightened(alloc: Global, octets: &[u8]) -> Result<Octets, AllocError> {
-    let mut tight = Vec::new(alloc);
+// Puts those octets at the end of none, without the blanks beside commas and semicolons, but for those in quoted strings.
+fn tighten(octets: &[u8], tight: &mut Vec<u8>) -> Result<(), AllocError> {
     let mut without_blanks: usize = 0;
     let mut place = Place::Plain;
     for octet in octets {
@@ -65,21 +63,23 @@ fn tightened(alloc: Global, octets: &[u8]) -> Result<Octets, AllocError> {
         place = place.after(*octet);
     }
     tight.truncate(without_blanks);
-    Ok(Octets::from_vec(tight))
+    Ok(())
 }
 
-// What those fields have of a name, without the blanks beside commas and semicolons; none where there is none.
+// What those fields have of a name in lower case, without such blanks; none where there is none.
 fn tight_of(alloc: Global, name: &[u8], fields: &Fields) -> Result<Option<Octets>, AllocError> {
-    match FieldOf::new(name, fields).joined(alloc)? {
-        Some(value) => Ok(Some(tightened(alloc, value.as_slice())?)),
-        None => Ok(None),
-    }
+    let Some(value) = fields.joined(alloc, name)? else {
+        return Ok(None);
+    };
+    let mut tight = Vec::new(alloc);
+    tighten(value.as_slice(), &mut tight)?;
+    Ok(Some(Octets::from_vec(tight)))
 }
 
 // How often a thing of a list stands in it, in either case.
-fn count_in(list: &[u8], wanted: &[u8]) -> usize {
+fn count_in(list: &Octets, wanted: &[u8]) -> usize {
     let mut count: usize = 0;
-    for member in list_members(list) {
+    for member in list_members(list.as_slice()) {
         if member.eq_ignore_ascii_case(wanted) {
             count = count.saturating_add(1);
         }
@@ -88,8 +88,8 @@ fn count_in(list: &[u8], wanted: &[u8]) -> usize {
 }
 
 // Whether each thing of the one list stands in both equally often, in either case.
-fn has_all(one: &[u8], other: &[u8]) -> bool {
-    for member in list_members(one) {
+fn has_all(one: &Octets, other: &Octets) -> bool {
+    for member in list_members(one.as_slice()) {
         if count_in(one, member) != count_in(other, member) {
             return false;
         }
@@ -98,41 +98,22 @@ fn has_all(one: &[u8], other: &[u8]) -> bool {
 }
 
 /// Whether both have the field, and mean the same by it though it may be written in other ways: with blanks beside commas and
-/// semicolons, or in several lines (RFC 9110 sections 5.3 and 5.6.1).
-pub fn is_same_list(
+/// semicolons, or in several lines (RFC 9110 sections 5.3 and 5.6.1). Where Vary selects by it, the order and the case of letters
+/// mean nothing either in a list of preferences (RFC 9111 section 4.1, RFC 9110 section 12.5).
+pub fn means_the_same(
     alloc: Global,
     name: &[u8],
-    one: &Fields,
-    other: &Fields,
+    (one, other): (&Fields, &Fields),
+    is_selector: bool,
 ) -> Result<bool, AllocError> {
-    let one = tight_of(alloc, name, one)?;
-    let other = tight_of(alloc, name, other)?;
-    Ok(one.is_some() && one == other)
-}
-
-/// The same where Vary selects by the field: of a list of preferences the order and the case of letters mean nothing either
-/// (RFC 9111 section 4.1, RFC 9110 section 12.5).
-pub fn is_same_selector(
-    alloc: Global,
-    name: &[u8],
-    one: &Fields,
-    other: &Fields,
-) -> Result<bool, AllocError> {
-    let known = name.to_ascii_lowercase(alloc)?;
-    if !is_among(&PREFERENCES, known.as_slice()) {
-        return is_same_list(alloc, name, one, other);
-    }
-    let one = tight_of(alloc, name, one)?;
-    let other = tight_of(alloc, name, other)?;
-    match (&one, &other) {
-        (Some(one), Some(other)) => {
-            Ok(
-                has_all(one.as_slice(), other.as_slice())
-                    && has_all(other.as_slice(), one.as_slice()),
-            )
-        }
-        _ => Ok(false),
-    }
+    let name = name.to_ascii_lowercase(alloc)?;
+    let one = tight_of(alloc, name.as_slice(), one)?;
+    let other = tight_of(alloc, name.as_slice(), other)?;
+    let (Some(one), Some(other)) = (&one, &other) else {
+        return Ok(false);
+    };
+    let is_preference = is_selector && is_among(&PREFERENCES, name.as_slice());
+    Ok(one == other || (is_preference && has_all(one, other) && has_all(other, one)))
 }
 
 /// Of which fields alone a response says something by a directive.
@@ -185,13 +166,17 @@ fn after_directive<'a>(member: &'a [u8], directive: &[u8]) -> Option<&'a [u8]> {
 pub fn qualified_by(directive: &[u8], response: &Fields, reply: &Fields) -> Qualified {
     let mut found = Qualified::Wholly;
     for member in response.members(b"cache-control") {
-        match after_directive(member, directive) {
-            Some([]) => return Qualified::Wholly,
-            Some([b'=', named @ ..]) if has_named(named, response, reply) => {
+        let Some(rest) = after_directive(member, directive) else {
+            continue;
+        };
+        if rest.is_empty() {
+            return Qualified::Wholly;
+        }
+        if let Some(named) = rest.strip_prefix(b"=") {
+            if has_named(named, response, reply) {
                 return Qualified::Kept;
             }
-            Some([b'=', ..]) => found = Qualified::LeftOut,
-            _ => {}
+            found = Qualified::LeftOut;
         }
     }
     found

@@ -110,35 +110,23 @@ impl Permit {
     // The text before its seconds, and the one after them.
     fn words(&self) -> (&'static str, &'static str) {
         match self {
-            Permit::Slack => (", permitted by this audit's --slack", ""),
+            Permit::Slack => ("by this audit's --slack", ""),
             Permit::DefaultLifetime(_) => (
-                " by this audit's --default-ttl",
+                "by this audit's --default-ttl",
                 " (RFC 9111 section 4.2.2)",
             ),
-            Permit::MaxStale => (
-                ", permitted by max-stale",
-                " of the request (RFC 9111 section 5.2.1.2)",
-            ),
+            Permit::MaxStale => ("by max-stale", " of the request (RFC 9111 section 5.2.1.2)"),
             Permit::WhileRevalidating => (
-                ", permitted by stale-while-revalidate",
+                "by stale-while-revalidate",
                 " of the response (RFC 5861 section 3)",
             ),
-            Permit::IfError => (
-                ", permitted by stale-if-error",
-                " of the response (RFC 5861 section 4)",
-            ),
-            Permit::AskedIfError => (
-                ", permitted by stale-if-error",
-                " of the request (RFC 5861 section 4)",
-            ),
+            Permit::IfError => ("by stale-if-error", " of the response (RFC 5861 section 4)"),
+            Permit::AskedIfError => ("by stale-if-error", " of the request (RFC 5861 section 4)"),
             Permit::Unreachable => (
-                ", permitted since the origin can't be reached",
+                "since the origin can't be reached",
                 " (RFC 9111 section 4.2.4)",
             ),
-            Permit::Grace(_) => (
-                ", permitted by this audit's --grace",
-                " (RFC 9111 section 4.2.4)",
-            ),
+            Permit::Grace(_) => ("by this audit's --grace", " (RFC 9111 section 4.2.4)"),
         }
     }
 }
@@ -165,6 +153,8 @@ impl StaleUse {
         self.usage.say_staleness(teller);
         let (before, after) = self.permit.words();
         let seconds = self.permitted_seconds();
+        let is_lent = matches!(self.permit, Permit::DefaultLifetime(_));
+        teller.separator(is_lent, " ", ", permitted ");
         teller.words(before);
         if let Some(seconds) = seconds {
             teller.count(" ", seconds, "");

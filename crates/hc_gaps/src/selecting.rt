@@ -4,7 +4,7 @@ ghost use Rattle.std.specs.Prelude.{◌≡◌, ◌++◌, List, ℕ, [], ◌∷�
 ghost use Rattle.hc_gaps.specs.Selecting.{AreNamed, AreUnmet, is_unmet};
 
 use crate::demand::Demand;
-use crate::forms::is_same_selector;
+use crate::forms::means_the_same;
 use crate::newest::NAMED;
 use crate::rules::Pair;
 use hc_fields::{Octets, is_token};
@@ -63,11 +63,12 @@ pub fn unmet_members(
             found.more = found.more.saturating_add(1);
             continue;
         }
-        let (answered, asked) = (&state.request.fields, &claim.request.fields);
+        let both = (&state.request.fields, &claim.request.fields);
+        let is_form = means_the_same(alloc, member, both, true)?;
         found.unmet.push(UnmetMember {
             member: Octets::from_slice(alloc, member)?,
             is_name: is_token(member) && member != b"*".as_slice(),
-            is_form: is_same_selector(alloc, member, answered, asked)?,
+            is_form,
         })?;
     }
     Ok(found)

@@ -15,16 +15,12 @@ use hc_update::Stored;
 /// The most seconds that an option takes.
 const MOST_SECONDS: u64 = 2_147_483_648;
 
-/// What a response, and the request of a reply, say of how stale it may be served.
+/// What a response says of how stale it may be served, and what the request of a reply asks.
 #[derive(Clone, Copy)]
 pub struct StaleSaid {
-    /// The `max-stale` of the request.
     pub max_stale: Seconds,
-    /// The `stale-while-revalidate` of the response.
     pub while_revalidating: Seconds,
-    /// Its `stale-if-error`.
     pub if_error: Seconds,
-    /// That of the request.
     pub asked_if_error: Seconds,
 }
 

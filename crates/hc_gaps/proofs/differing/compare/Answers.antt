@@ -21,7 +21,7 @@ loop-name-preserved-then-len-ge-MOST_LISTED c =
     let name = (get_or items c.loop-name.name-index none).now in (
       before.0 ++ filter (differs claim state) (name ∷ []),
       counted claim state before.0 name c.loop-name.found _ (sym c.in_ok-differs.ensures ∙ c.if-not-branch.false)
-      (omega (arith, c.if-len-ge-MOST_LISTED.true, c.len.ensures, c.loop-name.found.listed.ok.0)) refl c.saturating_add.ensures before.1,
+          (omega (arith, c.if-len-ge-MOST_LISTED.true, c.len.ensures, c.loop-name.found.listed.ok.0)) refl c.saturating_add.ensures before.1,
       on_to (differs claim state) before.0 (differing_in claim state) items c.loop-name.name-index none (search rules) before.2,
     )
 
@@ -35,8 +35,8 @@ loop-name-preserved c =
     let name = (get_or items c.loop-name.name-index none).now in (
       before.0 ++ filter (differs claim state) (name ∷ []),
       taken claim state before.0 name c.loop-name.found _ _ (sym c.in_ok-differs.ensures ∙ c.if-not-branch.false)
-      (omega (arith, c.if-len-ge-MOST_LISTED.false, c.len.ensures, c.loop-name.found.listed.ok.0))
-      c.in_ok-push.ensures.items refl c.in_ok-from_slice.ensures c.change_of.ensures before.1,
+          (omega (arith, c.if-len-ge-MOST_LISTED.false, c.len.ensures, c.loop-name.found.listed.ok.0))
+          c.in_ok-push.ensures.items refl c.in_ok-from_slice.ensures c.change_of.ensures before.1,
       on_to (differs claim state) before.0 (differing_in claim state) items c.loop-name.name-index none (search rules) before.2,
     )
 
