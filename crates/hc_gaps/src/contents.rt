@@ -279,7 +279,14 @@ impl ContentGap {
         }
         let pair = (claim, state);
         match self.content {
-            Content::Unsatisfied => self.tell_unsatisfied(pair, teller),
+            // What was due in its place, and what it has (RFC 9110 section 15.5.17).
+            Content::Unsatisfied => {
+                let whole = state.body.len() as u64;
+                say_status("due ", self.due, None, teller);
+                teller.count(" with all ", whole, " octets that are stored, ");
+                teller.count("or a 416 with content-range \"bytes */", whole, "\"; ");
+                tell_range("the reply is a 416 with content-range ", pair, teller);
+            }
             Content::Evaluated(condition) => self.tell_evaluated(condition, pair, teller),
             Content::Part => {
                 self.say(teller);
@@ -304,15 +311,6 @@ impl ContentGap {
                 teller.number("due_status", "its status is ", status, "");
             }
         }
-    }
-
-    // Tells what was due in place of a 416, and what that has (RFC 9110 section 15.5.17).
-    fn tell_unsatisfied<T: Teller>(&self, pair: Pair<'_>, teller: &mut T) {
-        let whole = pair.1.body.len() as u64;
-        say_status("due ", self.due, None, teller);
-        teller.count(" with all ", whole, " octets that are stored, ");
-        teller.count("or a 416 with content-range \"bytes */", whole, "\"; ");
-        tell_range("the reply is a 416 with content-range ", pair, teller);
     }
 
     // Tells how the statuses and the bodies differ.

@@ -7,7 +7,6 @@ ghost use Rattle.hc_gaps.specs.Differing.{AreDifferences, AreListed, IsGap, chan
 use crate::demand::Demand;
 use crate::forms::means_the_same;
 use crate::newest::NAMED;
-use crate::rules::Pair;
 use hc_fields::{Field, Fields, Octets, is_among};
 use hc_head::StatusCode;
 use hc_history::{ReplyClaim, differs, is_of_content};
@@ -330,11 +329,11 @@ impl FieldsOrigin<'_> {
 }
 
 // What a reply claims, a stored response, and what its fields come from.
-type Sides<'a> = (Pair<'a>, FieldsOrigin<'a>);
+type Sides<'a> = (&'a ReplyClaim<'a>, &'a Stored, &'a FieldsOrigin<'a>);
 
 impl FieldGap {
     // Tells what is due of the field, and what the reply has.
-    fn tell<T: Teller>(&self, ((claim, state), origin): Sides<'_>, teller: &mut T) {
+    fn tell<T: Teller>(&self, (claim, state, origin): Sides<'_>, teller: &mut T) {
         let name = self.name.as_slice();
         teller.octets("name", "", name);
         teller.word("change", self.change.word());
@@ -387,15 +386,7 @@ impl Differences {
         said
     }
 
-    // Tells each as far as they are named.
-    fn tell_named<T: Teller>(&self, sides: Sides<'_>, teller: &mut T) {
-        let said = self.tell_changed(Change::Dropped, sides, 0, teller);
-        let said = self.tell_changed(Change::Changed, sides, said, teller);
-        let said = self.tell_changed(Change::Added, sides, said, teller);
-        let unsaid = self.listed.len().saturating_sub(said) as u64;
-        teller.say_more(self.more.saturating_add(unsaid));
-    }
-
+    // Tells an object of each that is listed.
     fn tell_listed<T: Teller>(&self, sides: Sides<'_>, teller: &mut T) {
         teller.fact("more_fields", self.more);
         teller.begin_list("fields");
@@ -410,14 +401,18 @@ impl Differences {
     /// Tells what is due of each, and what the reply has: a text of the first of them, an object of all that are listed.
     pub fn tell<T: Teller>(
         &self,
-        pair: (&ReplyClaim<'_>, &Stored),
+        (claim, state): (&ReplyClaim<'_>, &Stored),
         origin: FieldsOrigin<'_>,
         teller: &mut T,
     ) {
-        if teller.is_text() {
-            self.tell_named((pair, origin), teller);
-        } else {
-            self.tell_listed((pair, origin), teller);
+        let sides = (claim, state, &origin);
+        if !teller.is_text() {
+            return self.tell_listed(sides, teller);
         }
+        let said = self.tell_changed(Change::Dropped, sides, 0, teller);
+        let said = self.tell_changed(Change::Changed, sides, said, teller);
+        let said = self.tell_changed(Change::Added, sides, said, teller);
+        let unsaid = self.listed.len().saturating_sub(said) as u64;
+        teller.say_more(self.more.saturating_add(unsaid));
     }
 }
