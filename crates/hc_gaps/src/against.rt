@@ -3,7 +3,7 @@
 ghost use Rattle.std.specs.Prelude.{◌≡◌, not, IfOk, is_some};
 ghost use Rattle.hc_head.specs.Statuses.{not_modified};
 ghost use Rattle.hc_update.specs.Identifying.{identifies};
-ghost use Rattle.hc_gaps.specs.Against.{against_of, said_of, telling_of};
+ghost use Rattle.hc_gaps.specs.Against.{against_of, telling_of};
 
 use crate::demand::Demand;
 use hc_fields::{Fields, trimmed};
@@ -88,23 +88,6 @@ impl Telling {
     }
 }
 
-// What a forward or the response to it says that stands against it.
-fn said(forward: &RequestHead, response: &ResponseHead) -> Option<Against>
-    ensures { result ≡ said_of forward.now response.now }
-{
-    if !is_get(&forward.method) {
-        Some(Against::Method)
-    } else if says(b"no-store", &forward.fields) {
-        Some(Against::ForwardNoStore)
-    } else if says(b"private", &response.fields) {
-        Some(Against::Private)
-    } else if says(b"no-store", &response.fields) {
-        Some(Against::NoStore)
-    } else {
-        None
-    }
-}
-
 /// The first thing that stands against that the response to a forward, of the target of the stored response, is a 304
 /// about it.
 pub fn first_against(
@@ -117,8 +100,17 @@ pub fn first_against(
     // Nothing stands against it exactly where it is about it.
     ensures exact { IfOk result (λ found. not (is_some found) ≡ identifies state.now forward.now response.now) }
 {
-    if let Some(said) = said(forward, response) {
-        return Ok(Some(said));
+    if !is_get(&forward.method) {
+        return Ok(Some(Against::Method));
+    }
+    if says(b"no-store", &forward.fields) {
+        return Ok(Some(Against::ForwardNoStore));
+    }
+    if says(b"private", &response.fields) {
+        return Ok(Some(Against::Private));
+    }
+    if says(b"no-store", &response.fields) {
+        return Ok(Some(Against::NoStore));
     }
     if !selects(alloc, &state.fields, &state.request.fields, &forward.fields)? {
         return Ok(Some(Against::Unselected));

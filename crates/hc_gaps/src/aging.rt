@@ -58,6 +58,26 @@ pub struct TtlGap {
     pub slack: u32,
 }
 
+/// What an age is counted from, as far as it is known.
+#[derive(Clone, Copy)]
+pub struct AgeOrigin {
+    /// The 304 that freshened the response last.
+    pub validator: Option<RecordName>,
+    /// The forward that this answers, or that the response does where no 304 freshened it.
+    pub sent: Option<RecordName>,
+    /// The response, where it came with an Age, and a 304 freshened it.
+    pub aged: Option<Aged>,
+}
+
+/// A response that came with an Age.
+#[derive(Clone, Copy)]
+pub struct Aged {
+    /// The position of its record.
+    pub position: u64,
+    /// Whether the 304 that freshened it last has an Age, too.
+    pub is_aged_anew: bool,
+}
+
 // What the Age lines among those fields tell.
 fn age_told(fields: &Fields) -> AgeTold
     ensures { IsAgeTold (values_of (codes "age") fields.now) result }
@@ -111,40 +131,34 @@ pub fn ttl_gap(claim: &ReplyClaim<'_>, state: &Stored) -> TtlGap
     }
 }
 
-impl AgeGap {
-    /// By how many seconds the Age is off, and whether it is too low: none where it tells no seconds.
-    pub fn off(&self) -> Option<(u64, bool)>
-        ensures { result ≡ age_off self.now.told self.now.due }
-    {
-        match self.told {
-            AgeTold::Seconds(told) => Some((u64::from(told.abs_diff(self.due)), told < self.due)),
-            AgeTold::Missing | AgeTold::Several | AgeTold::Unreadable => None,
-        }
-    }
-}
-
-impl TtlGap {
-    /// The seconds that are due.
-    pub fn due(&self) -> i64
-        ensures { result ≡ ttl_due self.now }
-    {
-        i64::from(self.lifetime) - i64::from(self.age)
-    }
-
-    /// By how many seconds it is off, and whether it is too low: none where it tells none.
-    pub fn off(&self) -> Option<(u64, bool)>
-        ensures { result ≡ ttl_off (ttl_due self.now) self.now.told }
-    {
-        let told = self.told?;
-        Some((told.abs_diff(self.due()), told < self.due()))
-    }
-}
-
 /// What is asked of the seconds of a mark.
 pub const TTL: Demand = Demand {
     sections: "RFC 9211 section 2.4",
     words: "ttl tells for how many seconds more the response is fresh",
 };
+
+/// Tells by how many seconds something may be off, and by which option, if it may be.
+pub(crate) fn say_slack<T: Teller>(slack: u32, option: &str, teller: &mut T) {
+    if slack == 0 {
+        return;
+    }
+    teller.count(" (give or take ", u64::from(slack), " by ");
+    teller.words(option);
+    teller.words(")");
+}
+
+/// The member of Cache-Status by which a recorder says that it wrote the Age.
+const BY_RECORDER: &[u8] = b"recorder;age-by-date";
+
+// Whether a recorder says that it wrote the Age of the reply of those fields, by its Date.
+fn is_by_recorder(reply: &Fields) -> bool {
+    for member in reply.members(b"cache-status") {
+        if member == BY_RECORDER {
+            return true;
+        }
+    }
+    false
+}
 
 impl AgeParts {
     // For how many seconds the response was on its way.
@@ -166,9 +180,51 @@ impl AgeParts {
         }
         Some(corrected.saturating_add(self.resident))
     }
+
+    // Tells the age that the response had when it came: by its Date, or by its Age and the time that it took.
+    fn say_first<T: Teller>(&self, sent: Option<RecordName>, teller: &mut T) {
+        if self.by_age_alone().is_some() {
+            return teller.count("", self.apparent(), " (Date)");
+        }
+        if self.times.age_value != 0 {
+            teller.count("", u64::from(self.times.age_value), " (Age) + ");
+        }
+        teller.count("", self.delay(), " (on its way");
+        if let Some(sent) = sent {
+            teller.record(" since ", sent);
+        }
+        teller.words(")");
+    }
+
+    /// Tells of what an age is the sum, after what stands for the age.
+    pub(crate) fn tell<T: Teller>(&self, origin: AgeOrigin, teller: &mut T) {
+        let times = self.times;
+        teller.fact("request_time", times.request_time);
+        teller.fact("response_time", times.response_time);
+        teller.fact("date_value", times.date);
+        teller.fact("age_value", u64::from(times.age_value));
+        teller.fact("resident_time", self.resident);
+        teller.words(" = ");
+        self.say_first(origin.sent, teller);
+        teller.count(" + ", self.resident, " (stored");
+        if let Some(validator) = origin.validator {
+            teller.record(" since the 304 ", validator);
+        }
+        teller.words(")");
+    }
 }
 
 impl AgeGap {
+    /// By how many seconds the Age is off, and whether it is too low: none where it tells no seconds.
+    pub fn off(&self) -> Option<(u64, bool)>
+        ensures { result ≡ age_off self.now.told self.now.due }
+    {
+        match self.told {
+            AgeTold::Seconds(told) => Some((u64::from(told.abs_diff(self.due)), told < self.due)),
+            AgeTold::Missing | AgeTold::Several | AgeTold::Unreadable => None,
+        }
+    }
+
     // Whether those seconds are what is counted by the response's Age alone.
     fn is_by_age_alone(&self, told: u32) -> bool {
         match self.parts.by_age_alone() {
@@ -210,86 +266,7 @@ impl AgeGap {
             ),
         }
     }
-}
 
-/// What an age is counted from, as far as it is known.
-#[derive(Clone, Copy)]
-pub struct AgeOrigin {
-    /// The 304 that freshened the response last.
-    pub validator: Option<RecordName>,
-    /// The forward that this answers, or that the response does where no 304 freshened it.
-    pub sent: Option<RecordName>,
-    /// The response, where it came with an Age, and a 304 freshened it.
-    pub aged: Option<Aged>,
-}
-
-/// A response that came with an Age.
-#[derive(Clone, Copy)]
-pub struct Aged {
-    /// The position of its record.
-    pub position: u64,
-    /// Whether the 304 that freshened it last has an Age, too.
-    pub is_aged_anew: bool,
-}
-
-/// Tells by how many seconds something may be off, and by which option, if it may be.
-pub(crate) fn say_slack<T: Teller>(slack: u32, option: &str, teller: &mut T) {
-    if slack == 0 {
-        return;
-    }
-    teller.count(" (give or take ", u64::from(slack), " by ");
-    teller.words(option);
-    teller.words(")");
-}
-
-impl AgeParts {
-    // Tells the age that the response had when it came: by its Date, or by its Age and the time that it took.
-    fn say_first<T: Teller>(&self, sent: Option<RecordName>, teller: &mut T) {
-        if self.by_age_alone().is_some() {
-            return teller.count("", self.apparent(), " (Date)");
-        }
-        if self.times.age_value != 0 {
-            teller.count("", u64::from(self.times.age_value), " (Age) + ");
-        }
-        teller.count("", self.delay(), " (on its way");
-        if let Some(sent) = sent {
-            teller.record(" since ", sent);
-        }
-        teller.words(")");
-    }
-
-    /// Tells of what an age is the sum, after what stands for the age.
-    pub(crate) fn tell<T: Teller>(&self, origin: AgeOrigin, teller: &mut T) {
-        let times = self.times;
-        teller.fact("request_time", times.request_time);
-        teller.fact("response_time", times.response_time);
-        teller.fact("date_value", times.date);
-        teller.fact("age_value", u64::from(times.age_value));
-        teller.fact("resident_time", self.resident);
-        teller.words(" = ");
-        self.say_first(origin.sent, teller);
-        teller.count(" + ", self.resident, " (stored");
-        if let Some(validator) = origin.validator {
-            teller.record(" since the 304 ", validator);
-        }
-        teller.words(")");
-    }
-}
-
-/// The member of Cache-Status by which a recorder says that it wrote the Age.
-const BY_RECORDER: &[u8] = b"recorder;age-by-date";
-
-// Whether a recorder says that it wrote the Age of the reply of those fields, by its Date.
-fn is_by_recorder(reply: &Fields) -> bool {
-    for member in reply.members(b"cache-status") {
-        if member == BY_RECORDER {
-            return true;
-        }
-    }
-    false
-}
-
-impl AgeGap {
     // Tells the seconds that the reply of those fields has, whether the recorder wrote them, and what would be due counted from
     // the arrival of the response alone, if that is something else.
     fn tell_seconds<T: Teller>(&self, told: u32, reply: &Fields, teller: &mut T) {
@@ -348,6 +325,21 @@ impl AgeGap {
 }
 
 impl TtlGap {
+    /// The seconds that are due.
+    pub fn due(&self) -> i64
+        ensures { result ≡ ttl_due self.now }
+    {
+        i64::from(self.lifetime) - i64::from(self.age)
+    }
+
+    /// By how many seconds it is off, and whether it is too low: none where it tells none.
+    pub fn off(&self) -> Option<(u64, bool)>
+        ensures { result ≡ ttl_off (ttl_due self.now) self.now.told }
+    {
+        let told = self.told?;
+        Some((told.abs_diff(self.due()), told < self.due()))
+    }
+
     /// Tells the seconds for which the reply is due to say that it is fresh still, and those that it says.
     pub fn tell<T: Teller>(&self, teller: &mut T) {
         teller.signed("due", "ttl: due ", self.due());

@@ -111,23 +111,6 @@ fn change_of(claim: &ReplyClaim<'_>, state: &Stored, name: &[u8]) -> Change
     }
 }
 
-impl Differences {
-    /// Whether one of those that are listed became so.
-    pub fn has(&self, change: Change) -> bool {
-        for gap in self.listed.iter() {
-            if gap.change == change {
-                return true;
-            }
-        }
-        false
-    }
-
-    /// Whether nothing differs.
-    pub fn is_nothing(&self) -> bool {
-        self.listed.is_empty()
-    }
-}
-
 /// The fields that are compared, and of which the reply has other values than the stored response, and none that
 /// are allowed in their place.
 pub fn compare(
@@ -169,7 +152,95 @@ pub fn compare(
     Ok(found)
 }
 
+impl Change {
+    /// The word for it.
+    pub fn word(&self) -> &'static str {
+        match self {
+            Change::Added => "added",
+            Change::Dropped => "dropped",
+            Change::Changed => "changed",
+        }
+    }
+}
+
+/// What the fields of a stored response come from.
+#[derive(Clone, Copy)]
+pub struct FieldsOrigin<'a> {
+    /// The 304 that freshened it last, with its fields, as far as it is known.
+    pub validator: Option<(RecordName, &'a Fields)>,
+    /// The position of its record.
+    pub position: u64,
+    /// The fields with which it came, as far as they are known.
+    pub first: Option<&'a Fields>,
+}
+
+impl FieldsOrigin<'_> {
+    // Whether the response is known to have come without a Date.
+    fn is_undated(&self) -> bool {
+        match self.first {
+            Some(first) => !first.contains(b"date"),
+            None => false,
+        }
+    }
+
+    // Tells of which record a value is that is due.
+    fn say<T: Teller>(&self, name: &[u8], stored: &Fields, teller: &mut T) {
+        let is_date = name == b"date".as_slice();
+        let came_otherwise = match self.first {
+            Some(first) => !first.values(name).eq(stored.values(name)),
+            None => false,
+        };
+        match self.validator {
+            Some((validator, renewed)) if renewed.contains(name) => {
+                teller.record(" (of the 304 ", validator);
+                teller.words(")");
+            }
+            Some((validator, _)) if is_date => {
+                teller.record(" (when the 304 ", validator);
+                teller.words(" came, which has no Date)");
+            }
+            Some(_) if came_otherwise => teller.words(" (of a 304 before that)"),
+            None if is_date && self.is_undated() => {
+                let after = " came, which has no Date)";
+                teller.count(" (when ", self.position, after);
+            }
+            _ => teller.count(" (of ", self.position, ")"),
+        }
+    }
+}
+
+// What a reply claims, a stored response, and what its fields come from.
+type Sides<'a> = (&'a ReplyClaim<'a>, &'a Stored, &'a FieldsOrigin<'a>);
+
+impl FieldGap {
+    // Tells what is due of the field, and what the reply has.
+    fn tell<T: Teller>(&self, (claim, state, origin): Sides<'_>, teller: &mut T) {
+        let name = self.name.as_slice();
+        teller.octets("name", "", name);
+        teller.word("change", self.change.word());
+        teller.values("due", ": due ", FieldOf::new(name, &state.fields));
+        origin.say(name, &state.fields, teller);
+        let told = FieldOf::new(name, &claim.reply.head.fields);
+        teller.values("told", ", the reply has ", told);
+    }
+}
+
 impl Differences {
+    /// Whether one of those that are listed became so.
+    pub fn has(&self, change: Change) -> bool {
+        for gap in self.listed.iter() {
+            if gap.change == change {
+                return true;
+            }
+        }
+        false
+    }
+
+    /// Whether nothing differs.
+    pub fn is_nothing(&self) -> bool {
+        self.listed.is_empty()
+    }
+
     // Whether those fields have one of the names.
     fn has_one_of(&self, fields: &Fields) -> bool {
         for gap in self.listed.iter() {
@@ -269,82 +340,7 @@ impl Differences {
             )
         }
     }
-}
 
-impl Change {
-    /// The word for it.
-    pub fn word(&self) -> &'static str {
-        match self {
-            Change::Added => "added",
-            Change::Dropped => "dropped",
-            Change::Changed => "changed",
-        }
-    }
-}
-
-/// What the fields of a stored response come from.
-#[derive(Clone, Copy)]
-pub struct FieldsOrigin<'a> {
-    /// The 304 that freshened it last, with its fields, as far as it is known.
-    pub validator: Option<(RecordName, &'a Fields)>,
-    /// The position of its record.
-    pub position: u64,
-    /// The fields with which it came, as far as they are known.
-    pub first: Option<&'a Fields>,
-}
-
-impl FieldsOrigin<'_> {
-    // Whether the response is known to have come without a Date.
-    fn is_undated(&self) -> bool {
-        match self.first {
-            Some(first) => !first.contains(b"date"),
-            None => false,
-        }
-    }
-
-    // Tells of which record a value is that is due.
-    fn say<T: Teller>(&self, name: &[u8], stored: &Fields, teller: &mut T) {
-        let is_date = name == b"date".as_slice();
-        let came_otherwise = match self.first {
-            Some(first) => !first.values(name).eq(stored.values(name)),
-            None => false,
-        };
-        match self.validator {
-            Some((validator, renewed)) if renewed.contains(name) => {
-                teller.record(" (of the 304 ", validator);
-                teller.words(")");
-            }
-            Some((validator, _)) if is_date => {
-                teller.record(" (when the 304 ", validator);
-                teller.words(" came, which has no Date)");
-            }
-            Some(_) if came_otherwise => teller.words(" (of a 304 before that)"),
-            None if is_date && self.is_undated() => {
-                let after = " came, which has no Date)";
-                teller.count(" (when ", self.position, after);
-            }
-            _ => teller.count(" (of ", self.position, ")"),
-        }
-    }
-}
-
-// What a reply claims, a stored response, and what its fields come from.
-type Sides<'a> = (&'a ReplyClaim<'a>, &'a Stored, &'a FieldsOrigin<'a>);
-
-impl FieldGap {
-    // Tells what is due of the field, and what the reply has.
-    fn tell<T: Teller>(&self, (claim, state, origin): Sides<'_>, teller: &mut T) {
-        let name = self.name.as_slice();
-        teller.octets("name", "", name);
-        teller.word("change", self.change.word());
-        teller.values("due", ": due ", FieldOf::new(name, &state.fields));
-        origin.say(name, &state.fields, teller);
-        let told = FieldOf::new(name, &claim.reply.head.fields);
-        teller.values("told", ", the reply has ", told);
-    }
-}
-
-impl Differences {
     // Writes each with that change and what it is, with a comma after whatever stands before it.
     fn name_each(&self, change: Change, is_first: bool, page: &mut Page) -> bool {
         let mut is_first = is_first;
