@@ -88,8 +88,7 @@ impl Telling {
     }
 }
 
-/// The first thing that stands against that the response to a forward, of the target of the stored response, is a 304
-/// about it.
+/// The first thing that stands against that the response to a forward, of the target of the stored response, is a 304 about it.
 pub fn first_against(
     alloc: Global,
     state: &Stored,

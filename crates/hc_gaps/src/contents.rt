@@ -1,11 +1,13 @@
 //! In what the status or the body of a reply differs from a stored response's.
 
 use crate::demand::Demand;
-use crate::rules::Pair;
 use hc_head::{Method, StatusCode, is_head};
 use hc_history::ReplyClaim;
 use hc_shown::{FieldOf, Teller};
 use hc_update::Stored;
+
+// What a reply claims, and a stored response.
+type Pair<'a> = (&'a ReplyClaim<'a>, &'a Stored);
 
 /// How the body of a reply differs from the one that is due.
 #[derive(Clone, Copy)]
@@ -36,15 +38,13 @@ enum Content {
     OfNoSuccess,
     // A 304 that no condition earns: this one of the request, if it has one.
     Unearned(Option<Condition>),
-    // A 416, in an audit that allows ranges.
+    // A 416, and a part, in an audit that allows ranges.
     Unsatisfied,
-    // A part, in an audit that allows ranges.
     Part,
     // A 412 by a condition that origins alone evaluate (RFC 9111 section 4.3.2).
     Evaluated(Condition),
     // A 412 by another one.
     Failed(Condition),
-    // Anything else.
     Other,
 }
 

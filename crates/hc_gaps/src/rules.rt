@@ -3,11 +3,7 @@
 ghost use Rattle.std.specs.Prelude.{◌≡◌};
 ghost use Rattle.hc_gaps.specs.Rules.{IsRuleBehind, reason_of};
 
-use hc_history::{Reason, ReplyClaim};
-use hc_update::Stored;
-
-/// What a reply claims, and a stored response.
-pub(crate) type Pair<'a> = (&'a ReplyClaim<'a>, &'a Stored);
+use hc_history::Reason;
 
 /// A rule that a stored response has to keep, in the order in which they are asked.
 #[derive(Clone, Copy, PartialEq, Eq)]

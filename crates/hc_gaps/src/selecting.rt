@@ -6,7 +6,6 @@ ghost use Rattle.hc_gaps.specs.Selecting.{AreNamed, AreUnmet, is_unmet};
 use crate::demand::Demand;
 use crate::forms::means_the_same;
 use crate::newest::NAMED;
-use crate::rules::Pair;
 use hc_fields::{Octets, is_token};
 use hc_history::{ReplyClaim, is_met_or_normalized};
 use hc_shown::{FieldOf, Page, RecordName, Teller};
@@ -127,35 +126,29 @@ impl Selection {
         teller.begin_list("unmet");
         let mut is_first = true;
         for unmet in self.unmet.iter() {
+            let member = unmet.member.as_slice();
+            let answered = FieldOf::new(member, &state.request.fields);
+            let asked = FieldOf::new(member, &claim.request.fields);
             teller.separator(is_first, " names ", "; ");
             teller.begin_item();
-            unmet.tell((claim, state), sent, teller);
+            teller.quoted("member", member);
+            if unmet.is_name {
+                teller.words(": its forward ");
+                if let Some(sent) = sent {
+                    teller.record("", sent);
+                    teller.words(" ");
+                }
+                teller.value("answered", "has ", answered);
+                teller.value("asked", ", this request has ", asked);
+            } else {
+                teller.words(", which selects no request");
+                teller.known("answered", answered);
+                teller.known("asked", asked);
+            }
             teller.end();
             is_first = false;
         }
         teller.end();
         teller.more("more_unmet", self.more);
-    }
-}
-
-impl UnmetMember {
-    // Tells what it finds in both requests.
-    fn tell<T: Teller>(&self, (claim, state): Pair<'_>, sent: Option<RecordName>, teller: &mut T) {
-        let member = self.member.as_slice();
-        teller.quoted("member", member);
-        let answered = FieldOf::new(member, &state.request.fields);
-        let asked = FieldOf::new(member, &claim.request.fields);
-        if !self.is_name {
-            teller.words(", which selects no request");
-            teller.known("answered", answered);
-            return teller.known("asked", asked);
-        }
-        teller.words(": its forward ");
-        if let Some(sent) = sent {
-            teller.record("", sent);
-            teller.words(" ");
-        }
-        teller.value("answered", "has ", answered);
-        teller.value("asked", ", this request has ", asked);
     }
 }

@@ -2,7 +2,7 @@
 //! would permit more.
 
 ghost use Rattle.std.specs.Prelude.{◌≡◌, min};
-ghost use Rattle.hc_gaps.specs.Stale.{greater, least_lifetime, most_seconds, seconds_in, settings_with, stale_said_of, takes_lifetime, tolerated, told_setting};
+ghost use Rattle.hc_gaps.specs.Stale.{greater, most_seconds, seconds_in, settings_with, stale_said_of, takes_lifetime, tolerated, told_setting};
 
 use crate::usage::seconds;
 use hc_directives::Seconds;
@@ -86,18 +86,6 @@ fn tolerated(claim: &ReplyClaim<'_>, state: &Stored) -> Option<u32>
     }
 }
 
-// The least lifetime with which the response is fresh, or no staler than is permitted.
-fn least_lifetime(claim: &ReplyClaim<'_>, state: &Stored) -> u64
-    ensures { result ≡ least_lifetime claim.now state.now }
-{
-    let age = u64::from(age_of(claim, state));
-    let slack = u64::from(claim.settings.slack);
-    match tolerated(claim, state) {
-        Some(seconds) => age.saturating_sub(u64::from(seconds) + slack),
-        None => (age + 1).saturating_sub(slack),
-    }
-}
-
 /// Whether the response may be given a lifetime.
 pub(crate) fn takes_lifetime(state: &Stored) -> bool
     ensures { result ≡ takes_lifetime state.now }
@@ -114,7 +102,11 @@ pub(crate) fn told_setting(claim: &ReplyClaim<'_>, state: &Stored) -> Option<Set
         return None;
     }
     if takes_lifetime(state) {
-        let least = least_lifetime(claim, state);
+        let (age, slack) = (age_of(claim, state), u64::from(claim.settings.slack));
+        let least = match tolerated(claim, state) {
+            Some(seconds) => u64::from(age).saturating_sub(u64::from(seconds) + slack),
+            None => (u64::from(age) + 1).saturating_sub(slack),
+        };
         if MOST_SECONDS < least {
             return None;
         }

@@ -32,8 +32,7 @@ pub struct Forbids {
     pub uninvited: bool,
 }
 
-/// What forbids a shared cache to store the response to that request, which is the one that was sent to the
-/// origin.
+/// What forbids a shared cache to store the response to that request, which is the one that was sent to the origin.
 #[tactic(auto, using(hc_directives::proofs::KnownLemmas::seconds_are_there))]
 pub fn what_forbids(forward: &RequestHead, response: &ResponseHead) -> Forbids
     ensures each { result ≡ forbids_of forward.now response.now }
