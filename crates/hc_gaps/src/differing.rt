@@ -136,13 +136,9 @@ pub fn compare(
             continue;
         }
         // Each line of Set-Cookie means something by itself.
+        let both = (&claim.reply.head.fields, &state.fields);
         let is_form = *name != b"set-cookie".as_slice()
-            && means_the_same(
-                alloc,
-                name,
-                (&claim.reply.head.fields, &state.fields),
-                false,
-            )?;
+            && means_the_same(alloc, name, both, false)?;
         found.listed.push(FieldGap {
             name: Octets::from_slice(alloc, name)?,
             change: change_of(claim, state, name),
