@@ -1,7 +1,7 @@
 //! What permits to give a stored response that is stale (RFC 9111 section 4.2.4, RFC 5861).
 
 ghost use Rattle.std.specs.Prelude.{◌≡◌};
-ghost use Rattle.hc_gaps.specs.Permits.{permit_of, stale_use_of};
+ghost use Rattle.hc_gaps.specs.Permits.{permit_by, permit_of, stale_use_of};
 
 use crate::aging::AgeOrigin;
 use crate::stale::number_in;
@@ -36,20 +36,12 @@ pub struct StaleUse {
     pub permit: Permit,
 }
 
-// The first thing that permits to give a response which is stale and may be used.
-fn first_permit(claim: &ReplyClaim<'_>, state: &Stored) -> Permit
-    ensures { result ≡ permit_of claim.now state.now }
+// The first thing that permits that staleness.
+fn permit_by(claim: &ReplyClaim<'_>, state: &Stored, stale: u32) -> Permit
+    ensures { result ≡ permit_by claim.now state.now stale }
 {
-    let stale = allowed_staleness(claim, state);
     let is_broken = claim.has_error || claim.has_failure;
-    if is_fresh_within(claim, state) {
-        Permit::Slack
-    } else if is_allowed_fresh(claim, state) {
-        match claim.settings.allowed.default_lifetime {
-            Some(seconds) => Permit::DefaultLifetime(seconds),
-            None => Permit::Slack,
-        }
-    } else if request_permits(claim, stale) {
+    if request_permits(claim, stale) {
         Permit::MaxStale
     } else if meanwhile_permits(claim, state, stale) {
         Permit::WhileRevalidating
@@ -64,6 +56,22 @@ fn first_permit(claim: &ReplyClaim<'_>, state: &Stored) -> Permit
             Some(seconds) => Permit::Grace(seconds),
             None => Permit::Unreachable,
         }
+    }
+}
+
+// The first thing that permits to give a response which is stale and may be used.
+fn first_permit(claim: &ReplyClaim<'_>, state: &Stored) -> Permit
+    ensures { result ≡ permit_of claim.now state.now }
+{
+    if is_fresh_within(claim, state) {
+        Permit::Slack
+    } else if is_allowed_fresh(claim, state) {
+        match claim.settings.allowed.default_lifetime {
+            Some(seconds) => Permit::DefaultLifetime(seconds),
+            None => Permit::Slack,
+        }
+    } else {
+        permit_by(claim, state, allowed_staleness(claim, state))
     }
 }
 

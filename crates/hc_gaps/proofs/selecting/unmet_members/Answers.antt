@@ -1,4 +1,4 @@
-use Rattle.std.proofs.Common.{rules, refl, ◌++◌, ◌∷◌, []}
+use Rattle.std.proofs.Common.{rules, arith, refl, ap, sym, not, ◌∙◌, ◌++◌, ◌∷◌, []}
 use Rattle.std.specs.Prelude.{filter}
 use Rattle.hc_gaps.specs.Selecting.{is_unmet, unmet_in}
 use Rattle.hc_gaps.proofs.FirstLemmas.{goes_on}
@@ -12,7 +12,8 @@ loop-member-preserved-then-len-ge-NAMED c =
     let member = c.in-Some.member.now in
     let before = c.loop-member.invariant in (
       before.0 ++ filter (is_unmet claim state) (member ∷ []),
-      counted claim state before.0 member c.loop-member.found _ (search rules) (search rules) refl c.saturating_add.ensures before.1,
+      counted claim state before.0 member c.loop-member.found _ (ap not (sym c.in_ok-is_met_or_normalized.ensures ∙ c.if-branch.false))
+          (omega (arith, c.if-len-ge-NAMED.true, c.len.ensures, c.loop-member.found.unmet.ok.0)) refl c.saturating_add.ensures before.1,
       goes_on (is_unmet claim state) before.0 c.loop-member.member-iterator c.next.new.self (unmet_in claim state) member (search rules) before.2,
     )
 
@@ -23,6 +24,7 @@ loop-member-preserved c =
     let member = c.in-Some.member.now in
     let before = c.loop-member.invariant in (
       before.0 ++ filter (is_unmet claim state) (member ∷ []),
-      taken claim state before.0 member c.loop-member.found _ _ (search rules) (search rules) c.in_ok-push.ensures.items refl (search rules) before.1,
+      taken claim state before.0 member c.loop-member.found _ _ (ap not (sym c.in_ok-is_met_or_normalized.ensures ∙ c.if-branch.false))
+          (omega (arith, c.if-len-ge-NAMED.false, c.len.ensures, c.loop-member.found.unmet.ok.0)) c.in_ok-push.ensures.items refl (search rules) before.1,
       goes_on (is_unmet claim state) before.0 c.loop-member.member-iterator c.next.new.self (unmet_in claim state) member (search rules) before.2,
     )
