@@ -171,6 +171,14 @@ pub struct FieldsOrigin<'a> {
 }
 
 impl FieldsOrigin<'_> {
+    // Whether the 304 that freshened it last is known to have that field.
+    fn has_renewed(&self, name: &[u8]) -> bool {
+        match self.validator {
+            Some((_, renewed)) => renewed.contains(name),
+            None => false,
+        }
+    }
+
     // Whether the response is known to have come without a Date.
     fn is_undated(&self) -> bool {
         match self.first {
@@ -237,26 +245,6 @@ impl Differences {
         self.listed.is_empty()
     }
 
-    // Whether those fields have one of the names.
-    fn has_one_of(&self, fields: &Fields) -> bool {
-        for gap in self.listed.iter() {
-            if fields.contains(gap.name.as_slice()) {
-                return true;
-            }
-        }
-        false
-    }
-
-    // Whether one of them tells of the representation.
-    fn has_content(&self) -> bool {
-        for gap in self.listed.iter() {
-            if is_of_content(gap.name.as_slice()) {
-                return true;
-            }
-        }
-        false
-    }
-
     // Whether both mean the same by all of them that weren't added, of which there is one, and those that were tell of no
     // representation.
     fn is_form(&self) -> bool {
@@ -271,20 +259,17 @@ impl Differences {
         has_form && self.more == 0
     }
 
-    fn has_date(&self) -> bool {
-        for gap in self.listed.iter() {
-            if gap.name.as_slice() == b"date".as_slice() {
-                return true;
-            }
-        }
-        false
-    }
-
     /// What is asked of the fields of a reply of that status, where those of the response come from that.
     pub fn demand(&self, status: StatusCode, origin: FieldsOrigin<'_>) -> Demand {
-        let is_renewed =
-            matches!(origin.validator, Some((_, renewed)) if renewed.contains(b"date"));
-        if origin.is_undated() && !is_renewed && self.has_date() {
+        let (mut has_date, mut has_content, mut is_renewed) = (false, false, false);
+        for gap in self.listed.iter() {
+            let name = gap.name.as_slice();
+            let has_renewed = origin.has_renewed(name);
+            has_date = has_date || (name == b"date".as_slice() && !has_renewed);
+            has_content = has_content || is_of_content(name);
+            is_renewed = is_renewed || has_renewed;
+        }
+        if origin.is_undated() && has_date {
             return Demand::of(
                 "RFC 9110 section 6.6.1",
                 "what comes without a Date MUST get one: the moment at which it came",
@@ -297,23 +282,23 @@ impl Differences {
             );
         }
         let is_changed = self.more != 0 || self.has(Change::Dropped) || self.has(Change::Changed);
-        if status == StatusCode::NOT_MODIFIED && (is_changed || self.has_content()) {
+        if status == StatusCode::NOT_MODIFIED && (is_changed || has_content) {
             return Demand::of(
                 "RFC 9110 section 15.4.5",
                 "a 304 MUST have the stored response's Cache-Control, Content-Location, Date, ETag, Expires and Vary",
             );
         }
-        match origin.validator {
-            Some((_, renewed)) if self.has_one_of(renewed) => Demand::of(
+        if is_renewed {
+            return Demand::of(
                 "RFC 9111 section 4.3.4",
                 "the fields of a 304 MUST replace those of the stored response that it is about",
-            ),
-            _ => self.demand_of_change(),
+            );
         }
+        self.demand_of_change(has_content)
     }
 
-    // What is asked by what became of the fields.
-    fn demand_of_change(&self) -> Demand {
+    // What is asked by what became of the fields, of which one tells of the representation or none does.
+    fn demand_of_change(&self, has_content: bool) -> Demand {
         if self.has(Change::Dropped) {
             Demand::of(
                 "RFC 9111 section 3.1",
@@ -324,7 +309,7 @@ impl Differences {
                 "RFC 9110 section 7.7",
                 "a proxy SHOULD NOT modify the fields that tell of the resource or of its representation",
             )
-        } else if self.has_content() {
+        } else if has_content {
             Demand::of(
                 "RFC 9110 section 7.7",
                 "a proxy SHOULD NOT modify what tells of a representation, and to add such a field, as a Content-Type, is that, too",
