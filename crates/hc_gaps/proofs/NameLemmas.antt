@@ -1,5 +1,5 @@
 -- Names among those that are compared, and among those that are listed.
-use Rattle.std.proofs.Common.{◌≡◌, ◌==◌, ◌||◌, ◌<◌, ◌≤◌, ◌++◌, ◌+◌, ◌-◌, ◌^◌, min, Bool, Bor, true, false, ℕ, List, [], ◌∷◌, if◌then◌else◌, length, drop, get_or, map, refl, ap, sym, subst, ◌∙◌}
+use Rattle.std.proofs.Common.{◌≡◌, ◌==◌, ◌||◌, ◌<◌, ◌≤◌, ◌++◌, ◌+◌, ◌-◌, ◌^◌, min, cond, Bool, Bor, true, false, ℕ, List, [], ◌∷◌, if◌then◌else◌, length, drop, get_or, map, refl, ap, sym, subst, ◌∙◌}
 use Rattle.std.specs.List.{list_any}
 use Rattle.std.specs.Prelude.{All, filter}
 use Rattle.std.specs.Str.{bytes_eq}
@@ -12,7 +12,7 @@ use Rattle.hc_history.specs.Claims.{Claim}
 use Rattle.hc_history.specs.Filters.{compared_names, names_of}
 use Rattle.hc_gaps.specs.declared.differing.Differences.{Differences}
 use Rattle.hc_gaps.specs.declared.differing.FieldGap.{FieldGap}
-use Rattle.hc_gaps.specs.Differing.{AreListed, IsGap, most_listed, with_name, with_names}
+use Rattle.hc_gaps.specs.Differing.{AreListed, IsGap, change_of, differs, most_listed, with_name, with_names}
 use Rattle.hc_gaps.proofs.FirstLemmas.{goes_on, one_counted, one_named}
 use Rattle.hc_gaps.proofs.ListedLemmas.{all_more}
 
@@ -78,7 +78,7 @@ abbrev listed : List FieldGap → List (List ℕ)
 listed gaps = map (λ (gap : FieldGap). gap.name) gaps
 
 -- one more is listed, where there is room
-pub one_listed : (claim : Claim) (state : Stored) (names : List (List ℕ)) (name : List ℕ) (found new : Differences) (gap : FieldGap)
+one_listed : (claim : Claim) (state : Stored) (names : List (List ℕ)) (name : List ℕ) (found new : Differences) (gap : FieldGap)
     → length found.listed.items < most_listed → new.listed.items ≡ found.listed.items ++ gap ∷ [] → new.more ≡ found.more
     → IsGap claim state gap → gap.name ≡ name
     → AreListed claim state names found → AreListed claim state (names ++ name ∷ []) new
@@ -93,7 +93,7 @@ one_listed claim state names name found new gap room items more is name-is are =
     }
 
 -- one more is counted, where there is none
-pub one_over : (claim : Claim) (state : Stored) (names : List (List ℕ)) (name : List ℕ) (found new : Differences)
+one_over : (claim : Claim) (state : Stored) (names : List (List ℕ)) (name : List ℕ) (found new : Differences)
     → most_listed ≤ length found.listed.items → new.listed.items ≡ found.listed.items → new.more ≡ min (found.more + 1) (2 ^ 64 - 1)
     → AreListed claim state names found → AreListed claim state (names ++ name ∷ []) new
 one_over claim state names name found new full items more are =
@@ -103,6 +103,26 @@ one_over claim state names name found new full items more are =
       each = subst (λ (gaps : List FieldGap). All (IsGap claim state) gaps) (sym items) are.each;
       first = record { first = ap listed items ∙ first.first; others = more ∙ first.others };
     }
+
+-- one that differs is listed, or counted
+pub taken : (claim : Claim) (state : Stored) (names : List (List ℕ)) (name : List ℕ) (found new : Differences) (gap : FieldGap)
+    → differs claim state name ≡ true → length found.listed.items < most_listed
+    → new.listed.items ≡ found.listed.items ++ gap ∷ [] → new.more ≡ found.more
+    → gap.name ≡ name → gap.change ≡ change_of claim state name
+    → AreListed claim state names found → AreListed claim state (names ++ filter (differs claim state) (name ∷ [])) new
+taken claim state names name found new gap other room items more name-is change-is are =
+    subst (λ (b : Bool). AreListed claim state (names ++ cond b (name ∷ []) []) new) (sym other)
+    (one_listed claim state names name found new gap room items more
+    (record { differs_is = ap (differs claim state) name-is ∙ other; change_is = change-is ∙ ap (change_of claim state) (sym name-is) })
+    name-is are)
+
+pub counted : (claim : Claim) (state : Stored) (names : List (List ℕ)) (name : List ℕ) (found new : Differences)
+    → differs claim state name ≡ true → most_listed ≤ length found.listed.items
+    → new.listed.items ≡ found.listed.items → new.more ≡ min (found.more + 1) (2 ^ 64 - 1)
+    → AreListed claim state names found → AreListed claim state (names ++ filter (differs claim state) (name ∷ [])) new
+counted claim state names name found new other full items more are =
+    subst (λ (b : Bool). AreListed claim state (names ++ cond b (name ∷ []) []) new) (sym other)
+    (one_over claim state names name found new full items more are)
 
 -- those so far, and those that are left behind a name more
 pub on_to : (p : List ℕ → Bool) (so_far all : List (List ℕ)) (items : List (Bor (List ℕ))) (i : ℕ) (d : Bor (List ℕ)) → i < length items

@@ -1,5 +1,5 @@
 -- Why a 304 isn't about a stored response (after RFC 9111 section 4.3.4).
-use Rattle.std.specs.Prelude.{ℕ, not, List, Option, Some, None, is_some, codes, if◌then◌else◌}
+use Rattle.std.specs.Prelude.{not, List, Option, Some, None, is_some, codes, if◌then◌else◌}
 use Rattle.std.specs.Option.{option_or}
 use Rattle.hc_fields.specs.declared.fields.Field.{Field}
 use Rattle.hc_fields.specs.Values.{has_name}

@@ -1,5 +1,5 @@
 -- The fields of which a reply has other values than a stored response.
-use Rattle.std.specs.Prelude.{◌≡◌, ◌++◌, ℕ, Bool, true, false, not, List, [], ◌∷◌, filter, map, All, bytes_eq, if◌then◌else◌}
+use Rattle.std.specs.Prelude.{◌≡◌, ◌++◌, ℕ, Bool, true, not, List, [], ◌∷◌, filter, map, All, bytes_eq, if◌then◌else◌}
 use Rattle.std.specs.List.{list_any}
 use Rattle.hc_fields.specs.Values.{has_name}
 use Rattle.hc_update.specs.declared.stored.Stored.{Stored}

@@ -1,10 +1,7 @@
 -- By which members of its Vary a stored response doesn't answer a request (RFC 9111 section 4.1).
-use Rattle.std.specs.Prelude.{◌≡◌, ℕ, Bool, ◌&&◌, not, nat_lt, List, filter, map, Option, Some, None, codes, bytes_eq, All, if◌then◌else◌}
-use Rattle.std.specs.Str.{str_to_ascii_lowercase}
-use Rattle.hc_fields.specs.declared.fields.Field.{Field}
+use Rattle.std.specs.Prelude.{◌≡◌, ℕ, Bool, ◌&&◌, not, List, filter, map, codes, bytes_eq, All}
 use Rattle.hc_fields.specs.Lists.{members_of}
 use Rattle.hc_fields.specs.Tokens.{is_token}
-use Rattle.hc_fields.specs.Values.{joined_values, values_of}
 use Rattle.hc_update.specs.declared.stored.Stored.{Stored}
 use Rattle.hc_history.specs.Allowing.{is_met_or_normalized}
 use Rattle.hc_history.specs.Claims.{Claim}

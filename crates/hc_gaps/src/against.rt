@@ -3,7 +3,7 @@
 ghost use Rattle.std.specs.Prelude.{◌≡◌, not, IfOk, is_some};
 ghost use Rattle.hc_head.specs.Statuses.{not_modified};
 ghost use Rattle.hc_update.specs.Identifying.{identifies};
-ghost use Rattle.hc_gaps.specs.Against.{against_of, said_of, telling_of};
+ghost use Rattle.hc_gaps.specs.Against.{against_of, telling_of};
 
 use crate::demand::Demand;
 use hc_fields::{Fields, trimmed};
@@ -14,16 +14,13 @@ use hc_shown::{FieldOf, Teller};
 use hc_update::{Stored, identifies};
 use std::alloc::{AllocError, Global};
 
-/// The field by which a 304 tells which response it is about.
+/// The field by which a 304 tells which response it is about: its ETag, or else its Last-Modified, or else the If-None-Match or
+/// the If-Modified-Since of its forward.
 #[derive(Clone, Copy)]
 pub enum Telling {
-    /// Its ETag.
     Tag,
-    /// Its Last-Modified, where it has no ETag.
     Modified,
-    /// The If-None-Match of its forward, where it has neither.
     AskedTag,
-    /// The If-Modified-Since of its forward, where that has no If-None-Match.
     AskedModified,
 }
 
@@ -91,25 +88,7 @@ impl Telling {
     }
 }
 
-// What a forward or the response to it says that stands against it.
-fn said(forward: &RequestHead, response: &ResponseHead) -> Option<Against>
-    ensures { result ≡ said_of forward.now response.now }
-{
-    if !is_get(&forward.method) {
-        Some(Against::Method)
-    } else if says(b"no-store", &forward.fields) {
-        Some(Against::ForwardNoStore)
-    } else if says(b"private", &response.fields) {
-        Some(Against::Private)
-    } else if says(b"no-store", &response.fields) {
-        Some(Against::NoStore)
-    } else {
-        None
-    }
-}
-
-/// The first thing that stands against that the response to a forward, of the target of the stored response, is a 304
-/// about it.
+/// The first thing that stands against that the response to a forward, of the target of the stored response, is a 304 about it.
 pub fn first_against(
     alloc: Global,
     state: &Stored,
@@ -120,8 +99,17 @@ pub fn first_against(
     // Nothing stands against it exactly where it is about it.
     ensures exact { IfOk result (λ found. not (is_some found) ≡ identifies state.now forward.now response.now) }
 {
-    if let Some(said) = said(forward, response) {
-        return Ok(Some(said));
+    if !is_get(&forward.method) {
+        return Ok(Some(Against::Method));
+    }
+    if says(b"no-store", &forward.fields) {
+        return Ok(Some(Against::ForwardNoStore));
+    }
+    if says(b"private", &response.fields) {
+        return Ok(Some(Against::Private));
+    }
+    if says(b"no-store", &response.fields) {
+        return Ok(Some(Against::NoStore));
     }
     if !selects(alloc, &state.fields, &state.request.fields, &forward.fields)? {
         return Ok(Some(Against::Unselected));
@@ -182,30 +170,22 @@ impl Against {
         selects(alloc, &state.fields, &state.request.fields, &forward.fields)
     }
 
-    /// A word for it: the name of the field that tells it, where one does.
-    pub fn name(&self) -> &'static str {
+    // A word for it, and words.
+    fn named(&self) -> (&'static str, &'static str) {
         match self {
-            Against::Earlier => "earlier",
-            Against::Method => "method",
-            Against::ForwardNoStore => "forward_no_store",
-            Against::Private => "private",
-            Against::NoStore => "no_store",
-            Against::Unselected => "vary",
-            Against::Validators(telling) => telling.names().0,
+            Against::Earlier => ("earlier", "before it came"),
+            Against::Method => ("method", "its forward is no GET"),
+            Against::ForwardNoStore => ("forward_no_store", "its forward says no-store"),
+            Against::Private => ("private", "it says private"),
+            Against::NoStore => ("no_store", "it says no-store"),
+            Against::Unselected => ("vary", "Vary doesn't select its forward"),
+            Against::Validators(telling) => (telling.names().0, "its validator is another one"),
         }
     }
 
-    // Words for it, but where the validators don't agree.
-    fn words(&self) -> &'static str {
-        match self {
-            Against::Earlier => "before it came",
-            Against::Method => "its forward is no GET",
-            Against::ForwardNoStore => "its forward says no-store",
-            Against::Private => "it says private",
-            Against::NoStore => "it says no-store",
-            Against::Unselected => "Vary doesn't select its forward",
-            Against::Validators(_) => "its validator is another one",
-        }
+    /// A word for it: the name of the field that tells it, where one does.
+    pub fn name(&self) -> &'static str {
+        self.named().0
     }
 
     /// Tells words for it, and what the 304 and the response of those fields have where their validators don't agree.
@@ -218,7 +198,7 @@ impl Against {
     ) {
         teller.word("against", self.name());
         let Against::Validators(telling) = self else {
-            return teller.words(self.words());
+            return teller.words(self.named().1);
         };
         let (name, of, validator) = telling.names();
         teller.words(name);

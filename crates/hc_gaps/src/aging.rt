@@ -2,8 +2,9 @@
 
 ghost use Rattle.std.specs.Prelude.{◌≡◌, [], ◌∷◌, codes};
 ghost use Rattle.hc_fields.specs.Values.{values_of};
-ghost use Rattle.hc_gaps.specs.Trusting.{age_by_age_alone};
+ghost use Rattle.hc_fresh.specs.Ages.{apparent_age, response_delay};
 ghost use Rattle.hc_gaps.specs.Aging.{IsAgeGap, IsAgeTold, age_off, parts_of, ttl_due, ttl_gap_of, ttl_off};
+ghost use Rattle.hc_gaps.specs.Trusting.{age_by_age_alone};
 
 use crate::demand::Demand;
 use hc_fields::{Fields, number};
@@ -16,13 +17,9 @@ use hc_update::Stored;
 /// What the Age lines of a reply tell.
 #[derive(Clone, Copy)]
 pub enum AgeTold {
-    /// There is none.
     Missing,
-    /// There are several.
     Several,
-    /// The one that there is is no number.
     Unreadable,
-    /// So many seconds.
     Seconds(u32),
 }
 
@@ -63,14 +60,24 @@ pub struct TtlGap {
     pub slack: u32,
 }
 
-// What one Age line tells.
-fn told_by(value: &[u8]) -> AgeTold
-    ensures { IsAgeTold (value.now ∷ []) result }
-{
-    match number(value) {
-        Some(seconds) => AgeTold::Seconds(seconds),
-        None => AgeTold::Unreadable,
-    }
+/// What an age is counted from, as far as it is known.
+#[derive(Clone, Copy)]
+pub struct AgeOrigin {
+    /// The 304 that freshened the response last.
+    pub validator: Option<RecordName>,
+    /// The forward that this answers, or that the response does where no 304 freshened it.
+    pub sent: Option<RecordName>,
+    /// The response, where it came with an Age, and a 304 freshened it.
+    pub aged: Option<Aged>,
+}
+
+/// A response that came with an Age.
+#[derive(Clone, Copy)]
+pub struct Aged {
+    /// The position of its record.
+    pub position: u64,
+    /// Whether the 304 that freshened it last has an Age, too.
+    pub is_aged_anew: bool,
 }
 
 // What the Age lines among those fields tell.
@@ -84,7 +91,10 @@ fn age_told(fields: &Fields) -> AgeTold
     if values.next().is_some() {
         return AgeTold::Several;
     }
-    told_by(value)
+    match number(value) {
+        Some(seconds) => AgeTold::Seconds(seconds),
+        None => AgeTold::Unreadable,
+    }
 }
 
 /// What the age of the response at the reply is reckoned from.
@@ -123,134 +133,11 @@ pub fn ttl_gap(claim: &ReplyClaim<'_>, state: &Stored) -> TtlGap
     }
 }
 
-impl AgeGap {
-    /// By how many seconds the Age is off, and whether it is too low: none where it tells no seconds.
-    pub fn off(&self) -> Option<(u64, bool)>
-        ensures { result ≡ age_off self.now.told self.now.due }
-    {
-        match self.told {
-            AgeTold::Seconds(told) => Some((u64::from(told.abs_diff(self.due)), told < self.due)),
-            AgeTold::Missing | AgeTold::Several | AgeTold::Unreadable => None,
-        }
-    }
-}
-
-impl TtlGap {
-    /// The seconds that are due.
-    pub fn due(&self) -> i64
-        ensures { result ≡ ttl_due self.now }
-    {
-        i64::from(self.lifetime) - i64::from(self.age)
-    }
-
-    /// By how many seconds it is off, and whether it is too low: none where it tells none.
-    pub fn off(&self) -> Option<(u64, bool)>
-        ensures { result ≡ ttl_off (ttl_due self.now) self.now.told }
-    {
-        let told = self.told?;
-        Some((told.abs_diff(self.due()), told < self.due()))
-    }
-}
-
-const MISSING_OF_304: Demand = Demand {
-    sections: "RFC 9111 section 4",
-    words: "a 304 that a cache makes of what is stored MUST have an Age, as all that comes from the store",
-};
-
-const MISSING: Demand = Demand {
-    sections: "RFC 9111 section 4",
-    words: "a reply from the store MUST have an Age",
-};
-
-const ONE_NUMBER: Demand = Demand {
-    sections: "RFC 9111 section 5.1",
-    words: "Age is one number of seconds",
-};
-
-const SINCE_VALIDATED: Demand = Demand {
-    sections: "RFC 9111 sections 4.2 and 5.1",
-    words: "a response's age, which Age tells, is the time since it was generated, or was validated last, at the origin",
-};
-
-const AGE: Demand = Demand {
-    sections: "RFC 9111 sections 4 and 4.2.3",
-    words: "Age MUST be what the response's Age or Date says, with the seconds that it was on its way, and those since",
-};
-
-const VALIDATED: Demand = Demand {
-    sections: "no RFC (RFC 9111 section 4 asks for an Age where what is stored is used without validation), but this auditor's stricter rule",
-    words: "what comes from the store has an Age, also after a 304 to the request itself",
-};
-
-const BY_AGE_ALONE: Demand = Demand {
-    sections: "no RFC (RFC 9111 section 4.2.3 lets a cache count by Age alone where it trusts that), but this auditor's stricter rule",
-    words: "Age is what the response's Age or its Date says, whichever is more, with the seconds since",
-};
-
 /// What is asked of the seconds of a mark.
 pub const TTL: Demand = Demand {
     sections: "RFC 9211 section 2.4",
     words: "ttl tells for how many seconds more the response is fresh",
 };
-
-impl AgeParts {
-    /// The age that is counted by the response's Age alone, where its Date tells of more.
-    pub(crate) fn by_age_alone(&self) -> Option<u64>
-        ensures { result ≡ age_by_age_alone self.now }
-    {
-        let times = self.times;
-        let delay = times.response_time.saturating_sub(times.request_time);
-        let corrected = u64::from(times.age_value).saturating_add(delay);
-        if times.response_time.saturating_sub(times.date) <= corrected {
-            return None;
-        }
-        Some(corrected.saturating_add(self.resident))
-    }
-}
-
-impl AgeGap {
-    // Whether those seconds are what is counted by the response's Age alone.
-    fn is_by_age_alone(&self, told: u32) -> bool {
-        match self.parts.by_age_alone() {
-            Some(counted) => counted.abs_diff(u64::from(told)) <= u64::from(self.slack),
-            None => false,
-        }
-    }
-
-    /// What is asked of the Age of a reply of that status, whose response a 304 has validated since that position or before it,
-    /// if one has.
-    pub fn demand(&self, since: u64, validated_at: Option<u64>, status: StatusCode) -> Demand {
-        match (self.told, validated_at) {
-            (AgeTold::Missing, Some(validated)) if since < validated => VALIDATED,
-            (AgeTold::Missing, _) if status == StatusCode::NOT_MODIFIED => MISSING_OF_304,
-            (AgeTold::Missing, _) => MISSING,
-            (AgeTold::Several | AgeTold::Unreadable, _) => ONE_NUMBER,
-            (AgeTold::Seconds(told), _) if self.is_by_age_alone(told) => BY_AGE_ALONE,
-            (AgeTold::Seconds(_), Some(_)) => SINCE_VALIDATED,
-            (AgeTold::Seconds(_), None) => AGE,
-        }
-    }
-}
-
-/// What an age is counted from, as far as it is known.
-#[derive(Clone, Copy)]
-pub struct AgeOrigin {
-    /// The 304 that freshened the response last.
-    pub validator: Option<RecordName>,
-    /// The forward that this answers, or that the response does where no 304 freshened it.
-    pub sent: Option<RecordName>,
-    /// The response, where it came with an Age, and a 304 freshened it.
-    pub aged: Option<Aged>,
-}
-
-/// A response that came with an Age.
-#[derive(Clone, Copy)]
-pub struct Aged {
-    /// The position of its record.
-    pub position: u64,
-    /// Whether the 304 that freshened it last has an Age, too.
-    pub is_aged_anew: bool,
-}
 
 /// Tells by how many seconds something may be off, and by which option, if it may be.
 pub(crate) fn say_slack<T: Teller>(slack: u32, option: &str, teller: &mut T) {
@@ -262,33 +149,59 @@ pub(crate) fn say_slack<T: Teller>(slack: u32, option: &str, teller: &mut T) {
     teller.words(")");
 }
 
-impl AgeParts {
-    // Tells for how many seconds the response was on its way.
-    fn say_delay<T: Teller>(&self, sent: Option<RecordName>, teller: &mut T) {
-        let delay = self
-            .times
-            .response_time
-            .saturating_sub(self.times.request_time);
-        teller.count("", delay, " (on its way");
-        if let Some(sent) = sent {
-            teller.record(" since ", sent);
+/// The member of Cache-Status by which a recorder says that it wrote the Age.
+const BY_RECORDER: &[u8] = b"recorder;age-by-date";
+
+// Whether a recorder says that it wrote the Age of the reply of those fields, by its Date.
+fn is_by_recorder(reply: &Fields) -> bool {
+    for member in reply.members(b"cache-status") {
+        if member == BY_RECORDER {
+            return true;
         }
-        teller.words(")");
+    }
+    false
+}
+
+impl AgeParts {
+    // For how many seconds the response was on its way.
+    fn delay(&self) -> u64
+        ensures { result ≡ response_delay self.now.times }
+    {
+        let times = self.times;
+        times.response_time.saturating_sub(times.request_time)
+    }
+
+    // How old its Date said it to be when it came.
+    fn apparent(&self) -> u64
+        ensures { result ≡ apparent_age self.now.times }
+    {
+        self.times.response_time.saturating_sub(self.times.date)
+    }
+
+    /// The age that is counted by the response's Age alone, where its Date tells of more.
+    pub(crate) fn by_age_alone(&self) -> Option<u64>
+        ensures { result ≡ age_by_age_alone self.now }
+    {
+        let corrected = u64::from(self.times.age_value).saturating_add(self.delay());
+        if self.apparent() <= corrected {
+            return None;
+        }
+        Some(corrected.saturating_add(self.resident))
     }
 
     // Tells the age that the response had when it came: by its Date, or by its Age and the time that it took.
     fn say_first<T: Teller>(&self, sent: Option<RecordName>, teller: &mut T) {
-        let times = self.times;
-        let apparent = times.response_time.saturating_sub(times.date);
-        let delay = times.response_time.saturating_sub(times.request_time);
-        let told = u64::from(times.age_value);
-        if told.saturating_add(delay) < apparent {
-            return teller.count("", apparent, " (Date)");
+        if self.by_age_alone().is_some() {
+            return teller.count("", self.apparent(), " (Date)");
         }
-        if told != 0 {
-            teller.count("", told, " (Age) + ");
+        if self.times.age_value != 0 {
+            teller.count("", u64::from(self.times.age_value), " (Age) + ");
         }
-        self.say_delay(sent, teller);
+        teller.count("", self.delay(), " (on its way");
+        if let Some(sent) = sent {
+            teller.record(" since ", sent);
+        }
+        teller.words(")");
     }
 
     /// Tells of what an age is the sum, after what stands for the age.
@@ -309,42 +222,67 @@ impl AgeParts {
     }
 }
 
-/// The member of Cache-Status by which a recorder says that it wrote the Age.
-const BY_RECORDER: &[u8] = b"recorder;age-by-date";
-
-// Whether a recorder says that it wrote the Age of the reply of those fields, by its Date.
-fn is_by_recorder(reply: &Fields) -> bool {
-    for member in reply.members(b"cache-status") {
-        if member == BY_RECORDER {
-            return true;
+impl AgeGap {
+    /// By how many seconds the Age is off, and whether it is too low: none where it tells no seconds.
+    pub fn off(&self) -> Option<(u64, bool)>
+        ensures { result ≡ age_off self.now.told self.now.due }
+    {
+        match self.told {
+            AgeTold::Seconds(told) => Some((u64::from(told.abs_diff(self.due)), told < self.due)),
+            AgeTold::Missing | AgeTold::Several | AgeTold::Unreadable => None,
         }
     }
-    false
-}
 
-impl AgeGap {
-    // Tells the seconds that the reply has, and whether the recorder wrote them.
-    fn tell_seconds<T: Teller>(told: u32, reply: &Fields, teller: &mut T) {
+    // Whether those seconds are what is counted by the response's Age alone.
+    fn is_by_age_alone(&self, told: u32) -> bool {
+        match self.parts.by_age_alone() {
+            Some(counted) => counted.abs_diff(u64::from(told)) <= u64::from(self.slack),
+            None => false,
+        }
+    }
+
+    /// What is asked of the Age of a reply of that status, whose response a 304 has validated since that position or before it,
+    /// if one has.
+    pub fn demand(&self, since: u64, validated_at: Option<u64>, status: StatusCode) -> Demand {
+        match (self.told, validated_at) {
+            (AgeTold::Missing, Some(validated)) if since < validated => Demand::of(
+                "no RFC (RFC 9111 section 4 asks for an Age where what is stored is used without validation), but this auditor's stricter rule",
+                "what comes from the store has an Age, also after a 304 to the request itself",
+            ),
+            (AgeTold::Missing, _) if status == StatusCode::NOT_MODIFIED => Demand::of(
+                "RFC 9111 section 4",
+                "a 304 that a cache makes of what is stored MUST have an Age, as all that comes from the store",
+            ),
+            (AgeTold::Missing, _) => Demand::of(
+                "RFC 9111 section 4",
+                "a reply from the store MUST have an Age",
+            ),
+            (AgeTold::Several | AgeTold::Unreadable, _) => {
+                Demand::of("RFC 9111 section 5.1", "Age is one number of seconds")
+            }
+            (AgeTold::Seconds(told), _) if self.is_by_age_alone(told) => Demand::of(
+                "no RFC (RFC 9111 section 4.2.3 lets a cache count by Age alone where it trusts that), but this auditor's stricter rule",
+                "Age is what the response's Age or its Date says, whichever is more, with the seconds since",
+            ),
+            (AgeTold::Seconds(_), Some(_)) => Demand::of(
+                "RFC 9111 sections 4.2 and 5.1",
+                "a response's age, which Age tells, is the time since it was generated, or was validated last, at the origin",
+            ),
+            (AgeTold::Seconds(_), None) => Demand::of(
+                "RFC 9111 sections 4 and 4.2.3",
+                "Age MUST be what the response's Age or Date says, with the seconds that it was on its way, and those since",
+            ),
+        }
+    }
+
+    // Tells the seconds that the reply of those fields has, whether the recorder wrote them, and what would be due counted from
+    // the arrival of the response alone, if that is something else.
+    fn tell_seconds<T: Teller>(&self, told: u32, reply: &Fields, teller: &mut T) {
         teller.number("told", "", u64::from(told), "");
         if is_by_recorder(reply) {
             teller.words(", which the recorder wrote, by the reply's Date");
             teller.flag("by_recorder", true);
         }
-    }
-
-    // Tells the Age that the reply has.
-    fn tell_told<T: Teller>(&self, reply: &Fields, teller: &mut T) {
-        match self.told {
-            AgeTold::Seconds(told) => return AgeGap::tell_seconds(told, reply, teller),
-            AgeTold::Missing => teller.words("none"),
-            AgeTold::Several => teller.words("several lines"),
-            AgeTold::Unreadable => teller.said_value(FieldOf::new(b"age", reply)),
-        }
-        teller.some("told", None);
-    }
-
-    // Tells what would be due counted from the arrival of the response alone, if that is something else.
-    fn say_by_arrival<T: Teller>(&self, teller: &mut T) {
         if u64::from(self.due) != self.parts.resident {
             let before = " (counted from its arrival alone ";
             teller.count(before, self.parts.resident, ")");
@@ -379,9 +317,14 @@ impl AgeGap {
             say_slack(self.slack, option, teller);
         }
         teller.words(", the reply has ");
-        self.tell_told(reply, teller);
-        if is_number {
-            self.say_by_arrival(teller);
+        match self.told {
+            AgeTold::Seconds(told) => self.tell_seconds(told, reply, teller),
+            AgeTold::Missing => teller.words("none"),
+            AgeTold::Several => teller.words("several lines"),
+            AgeTold::Unreadable => teller.said_value(FieldOf::new(b"age", reply)),
+        }
+        if !is_number {
+            teller.some("told", None);
         }
         if let Some(aged) = origin.aged {
             self.say_former(aged, teller);
@@ -390,6 +333,21 @@ impl AgeGap {
 }
 
 impl TtlGap {
+    /// The seconds that are due.
+    pub fn due(&self) -> i64
+        ensures { result ≡ ttl_due self.now }
+    {
+        i64::from(self.lifetime) - i64::from(self.age)
+    }
+
+    /// By how many seconds it is off, and whether it is too low: none where it tells none.
+    pub fn off(&self) -> Option<(u64, bool)>
+        ensures { result ≡ ttl_off (ttl_due self.now) self.now.told }
+    {
+        let told = self.told?;
+        Some((told.abs_diff(self.due()), told < self.due()))
+    }
+
     /// Tells the seconds for which the reply is due to say that it is fresh still, and those that it says.
     pub fn tell<T: Teller>(&self, teller: &mut T) {
         teller.signed("due", "ttl: due ", self.due());

@@ -6,11 +6,14 @@ use hc_history::ReplyClaim;
 use hc_shown::{FieldOf, Teller};
 use hc_update::Stored;
 
+// What a reply claims, and a stored response.
+type Pair<'a> = (&'a ReplyClaim<'a>, &'a Stored);
+
 /// How the body of a reply differs from the one that is due.
 #[derive(Clone, Copy)]
 pub struct BodyGap {
-    /// Whether the request is HEAD, so that no body is due.
-    pub is_head: bool,
+    // Whether the request is HEAD, so that no body is due.
+    is_head: bool,
     /// How many octets the response's body has.
     pub due: u64,
     /// How many the reply's has.
@@ -19,47 +22,41 @@ pub struct BodyGap {
     pub agreed: u64,
 }
 
-/// Why no condition of the request earns a 304 (RFC 9111 section 4.3.2).
+// A condition of a request (RFC 9110 section 13.2.2).
 #[derive(Clone, Copy)]
-pub enum Unearned {
-    /// The response has another status than 200.
-    Status,
-    /// The request has no condition.
-    NoCondition,
-    /// The condition of the request doesn't hold.
-    Condition(Condition),
+enum Condition {
+    Match,
+    UnmodifiedSince,
+    NoneMatch,
+    ModifiedSince,
 }
 
-/// A condition of a request, and what a response has for it (RFC 9110 section 13.2.2).
-#[derive(Clone, Copy, PartialEq, Eq)]
-pub enum Condition {
-    /// If-Match, and the ETag.
-    Match,
-    /// If-Unmodified-Since, and the Last-Modified.
-    UnmodifiedSince,
-    /// If-None-Match, and the ETag.
-    NoneMatch,
-    /// If-Modified-Since, and the Last-Modified.
-    ModifiedSince,
+// What a reply is that has another status or another body.
+#[derive(Clone, Copy)]
+enum Content {
+    // A 304 where the response has another status than 200.
+    OfNoSuccess,
+    // A 304 that no condition earns: this one of the request, if it has one.
+    Unearned(Option<Condition>),
+    // A 416, and a part, in an audit that allows ranges.
+    Unsatisfied,
+    Part,
+    // A 412 by a condition that origins alone evaluate (RFC 9111 section 4.3.2).
+    Evaluated(Condition),
+    // A 412 by another one.
+    Failed(Condition),
+    Other,
 }
 
 /// In what the status or the body of a reply differs from a stored response's.
 #[derive(Clone, Copy)]
-pub enum ContentGap {
-    /// It is a 304 that nothing earns.
-    Unearned(Unearned),
-    /// The statuses, the bodies where these differ, of a 412 the condition, and whether it tells of a part, in an audit that
-    /// allows ranges.
-    Other {
-        due: StatusCode,
-        told: StatusCode,
-        bodies: Option<BodyGap>,
-        failed: Option<Condition>,
-        is_part: bool,
-    },
+pub struct ContentGap {
+    content: Content,
+    due: StatusCode,
+    told: StatusCode,
+    bodies: Option<BodyGap>,
 }
 
-// How many octets both begin with.
 fn octets_in_common(one: &[u8], other: &[u8]) -> u64 {
     let most = one.len().min(other.len());
     for place in 0..most {
@@ -93,8 +90,8 @@ pub fn body_gap(method: &Method, told: &[u8], due: &[u8]) -> Option<BodyGap> {
 }
 
 impl Condition {
-    /// The names of the condition and of what a response has for it.
-    pub fn names(&self) -> (&'static str, &'static str) {
+    // The names of the condition and of what a response has for it.
+    fn names(self) -> (&'static str, &'static str) {
         match self {
             Condition::Match => ("if-match", "etag"),
             Condition::UnmodifiedSince => ("if-unmodified-since", "last-modified"),
@@ -103,94 +100,74 @@ impl Condition {
         }
     }
 
-    // Whether origins alone evaluate it (RFC 9111 section 4.3.2).
-    fn is_for_origins(self) -> bool {
-        self == Condition::Match || self == Condition::UnmodifiedSince
+    // The first of those that a request has.
+    fn first_asked(conditions: &[Condition], claim: &ReplyClaim<'_>) -> Option<Condition> {
+        for condition in conditions {
+            if claim
+                .request
+                .fields
+                .contains(condition.names().0.as_bytes())
+            {
+                return Some(*condition);
+            }
+        }
+        None
     }
 
-    // Whether a request has it.
-    fn is_asked(self, claim: &ReplyClaim<'_>) -> bool {
-        claim.request.fields.contains(self.names().0.as_bytes())
+    // Tells the condition that the request presents, and after a text what the response has for it.
+    fn tell<T: Teller>(self, after: &str, (claim, state): Pair<'_>, teller: &mut T) {
+        let (asked, validator) = self.names();
+        teller.words(asked);
+        let field = FieldOf::new(asked.as_bytes(), &claim.request.fields);
+        teller.value(asked, " ", field);
+        teller.words(after);
+        teller.words(" the stored response's ");
+        teller.words(validator);
+        let field = FieldOf::new(validator.as_bytes(), &state.fields);
+        teller.value(validator, " ", field);
     }
 }
 
-// The first of those conditions that a request has.
-fn first_asked(conditions: &[Condition], claim: &ReplyClaim<'_>) -> Option<Condition> {
-    for condition in conditions {
-        if condition.is_asked(claim) {
-            return Some(*condition);
+impl Content {
+    fn read(claim: &ReplyClaim<'_>, state: &Stored) -> Self {
+        let reply = claim.reply;
+        let has_ranges = claim.settings.allowed.ranges;
+        match reply.head.status {
+            StatusCode::NOT_MODIFIED if !reply.body.is_empty() => Content::Other,
+            StatusCode::NOT_MODIFIED if state.status != StatusCode::OK => Content::OfNoSuccess,
+            StatusCode::NOT_MODIFIED => {
+                let conditions = [Condition::NoneMatch, Condition::ModifiedSince];
+                Content::Unearned(Condition::first_asked(&conditions, claim))
+            }
+            StatusCode::RANGE_NOT_SATISFIABLE if has_ranges => Content::Unsatisfied,
+            StatusCode::PARTIAL_CONTENT if has_ranges => Content::Part,
+            StatusCode::PRECONDITION_FAILED => {
+                let conditions = [
+                    Condition::Match,
+                    Condition::UnmodifiedSince,
+                    Condition::NoneMatch,
+                ];
+                match Condition::first_asked(&conditions, claim) {
+                    Some(Condition::NoneMatch) => Content::Failed(Condition::NoneMatch),
+                    Some(condition) => Content::Evaluated(condition),
+                    None => Content::Other,
+                }
+            }
+            _ => Content::Other,
         }
     }
-    None
-}
-
-// Why no condition of the request earns a 304 from the response.
-fn why_unearned(claim: &ReplyClaim<'_>, state: &Stored) -> Unearned {
-    if state.status != StatusCode::OK {
-        return Unearned::Status;
-    }
-    match first_asked(&[Condition::NoneMatch, Condition::ModifiedSince], claim) {
-        Some(condition) => Unearned::Condition(condition),
-        None => Unearned::NoCondition,
-    }
-}
-
-// The condition of the request that the reply says to have failed, if it is a 412 and the request has one.
-fn failed_condition(claim: &ReplyClaim<'_>) -> Option<Condition> {
-    if claim.reply.head.status != StatusCode::PRECONDITION_FAILED {
-        return None;
-    }
-    let conditions = [
-        Condition::Match,
-        Condition::UnmodifiedSince,
-        Condition::NoneMatch,
-    ];
-    first_asked(&conditions, claim)
-}
-
-// Whether the reply tells of a part, and the audit allows ranges.
-fn tells_part(claim: &ReplyClaim<'_>) -> bool {
-    let status = claim.reply.head.status;
-    let is_part = status == StatusCode::PARTIAL_CONTENT
-        || status == StatusCode::RANGE_NOT_SATISFIABLE;
-    is_part && claim.settings.allowed.ranges
 }
 
 /// In what the status or the body of the reply differs from the response's.
 pub fn content_gap(claim: &ReplyClaim<'_>, state: &Stored) -> ContentGap {
-    let told = claim.reply.head.status;
     let body = claim.reply.body.as_slice();
-    if told == StatusCode::NOT_MODIFIED && body.is_empty() {
-        return ContentGap::Unearned(why_unearned(claim, state));
-    }
-    ContentGap::Other {
+    ContentGap {
+        content: Content::read(claim, state),
         due: state.status,
-        told,
+        told: claim.reply.head.status,
         bodies: body_gap(&claim.request.method, body, state.body.as_slice()),
-        failed: failed_condition(claim),
-        is_part: tells_part(claim),
     }
 }
-
-const CONTENT: Demand = Demand {
-    sections: "RFC 9111 section 4",
-    words: "a reply has the stored response's status and body, or is a 304 that a condition earns",
-};
-
-const UNEARNED: Demand = Demand {
-    sections: "RFC 9111 section 4.3.2",
-    words: "a reply has the stored response's status and body, or is a 304 that a condition earns",
-};
-
-const UNSATISFIED: Demand = Demand {
-    sections: "RFC 9110 section 15.5.17",
-    words: "a 416 SHOULD tell by Content-Range how long the whole is",
-};
-
-const PART: Demand = Demand {
-    sections: "RFC 9110 section 14.2",
-    words: "a range is answered by the whole that is stored, or by that part of it",
-};
 
 /// Parts that are right where an audit allows ranges.
 pub const PERMITTED_PART: Demand = Demand {
@@ -198,101 +175,9 @@ pub const PERMITTED_PART: Demand = Demand {
     words: "a reply is all of a response, but for --allow ranges",
 };
 
-const EVALUATED: Demand = Demand {
-    sections: "RFC 9111 section 4.3.2",
-    words: "a cache MUST NOT evaluate If-Match and If-Unmodified-Since: it gives what is stored, or asks the origin",
-};
-
-impl ContentGap {
-    // Whether it is the body alone that differs.
-    fn is_of_body(&self) -> bool {
-        match self {
-            ContentGap::Unearned(_) => false,
-            ContentGap::Other { due, told, .. } => due == told,
-        }
-    }
-
-    /// A word for it, as `other_body`.
-    pub fn kind(&self) -> &'static str {
-        if self.is_of_body() {
-            "other_body"
-        } else {
-            "other_status"
-        }
-    }
-
-    /// Tells words for it, as `another body`.
-    pub fn name<T: Teller>(&self, teller: &mut T) {
-        match self {
-            ContentGap::Unearned(_) => teller.words("another status: 304"),
-            ContentGap::Other { due, told, .. } if due == told => teller.words("another body"),
-            ContentGap::Other { told, .. } => {
-                teller.count("another status: ", u64::from(told.as_u16()), "");
-            }
-        }
-    }
-
-    /// What is asked of the status and the body of the reply.
-    pub fn demand(&self) -> Demand {
-        match self {
-            ContentGap::Unearned(_) => UNEARNED,
-            ContentGap::Other {
-                told: StatusCode::RANGE_NOT_SATISFIABLE,
-                is_part: true,
-                ..
-            } => UNSATISFIED,
-            ContentGap::Other { is_part: true, .. } => PART,
-            ContentGap::Other {
-                failed: Some(failed),
-                ..
-            } if failed.is_for_origins() => EVALUATED,
-            ContentGap::Other { .. } => CONTENT,
-        }
-    }
-}
-
-// Tells the condition that the request presents, and after a text what the response has for it.
-fn tell_condition<T: Teller>(
-    condition: Condition,
-    after: &str,
-    (claim, state): (&ReplyClaim<'_>, &Stored),
-    teller: &mut T,
-) {
-    let (asked, validator) = condition.names();
-    teller.words(asked);
-    let field = FieldOf::new(asked.as_bytes(), &claim.request.fields);
-    teller.value(asked, " ", field);
-    teller.words(after);
-    teller.words(" the stored response's ");
-    teller.words(validator);
-    let field = FieldOf::new(validator.as_bytes(), &state.fields);
-    teller.value(validator, " ", field);
-}
-
-// Tells that the request's condition doesn't earn a 304 (RFC 9111 section 4.3.2).
-fn tell_unearned<T: Teller>(
-    unearned: Unearned,
-    (claim, state): (&ReplyClaim<'_>, &Stored),
-    teller: &mut T,
-) {
-    teller.words("no condition earns the 304: ");
-    match unearned {
-        Unearned::Status => {
-            let status = u64::from(state.status.as_u16());
-            teller.number("due_status", "its status is ", status, "");
-        }
-        Unearned::NoCondition => teller.words("the request has none"),
-        Unearned::Condition(condition) => tell_condition(condition, ",", (claim, state), teller),
-    }
-}
-
-// Tells a status, and how many octets a body has, if that is told.
-fn say_status<T: Teller>(status: StatusCode, octets: Option<u64>, teller: &mut T) {
-    teller.count("", u64::from(status.as_u16()), "");
-    if let Some(octets) = octets {
-        teller.count(" with ", octets, " octets");
-    }
-}
+/// What is asked of the status and the body of a reply.
+const WHOLE: &str =
+    "a reply has the stored response's status and body, or is a 304 that a condition earns";
 
 impl BodyGap {
     /// Tells how many octets both bodies have to an object.
@@ -316,123 +201,141 @@ impl BodyGap {
     }
 }
 
-// Tells what was due in place of a 416, and what that has (RFC 9110 section 15.5.17).
-fn say_unsatisfied<T: Teller>((claim, state): (&ReplyClaim<'_>, &Stored), teller: &mut T) {
-    let whole = state.body.len() as u64;
-    teller.count("due ", u64::from(state.status.as_u16()), " with all ");
-    teller.count("", whole, " octets that are stored, ");
-    teller.count("or a 416 with content-range \"bytes */", whole, "\"; ");
-    teller.words("the reply is a 416 with content-range ");
-    teller.said_value(range_of(claim));
-}
-
-// The Content-Range of the reply.
-fn range_of<'a>(claim: &ReplyClaim<'a>) -> FieldOf<'a> {
-    FieldOf::new(b"content-range", &claim.reply.head.fields)
-}
-
-// Tells how the statuses and the bodies differ.
-fn say_other<T: Teller>(
-    (due, told): (StatusCode, StatusCode),
-    bodies: Option<BodyGap>,
-    teller: &mut T,
-) {
-    if due != told {
-        teller.count("status: due ", u64::from(due.as_u16()), "");
-        teller.count(", the reply has ", u64::from(told.as_u16()), "");
+// Tells a status after a text, and how many octets a body has, if that is told.
+fn say_status<T: Teller>(before: &str, status: StatusCode, octets: Option<u64>, teller: &mut T) {
+    teller.count(before, u64::from(status.as_u16()), "");
+    if let Some(octets) = octets {
+        teller.count(" with ", octets, " octets");
     }
-    let Some(bodies) = bodies else {
-        return;
-    };
-    if due != told {
-        teller.words("; ");
-    }
-    bodies.say(teller);
 }
 
-// Tells the condition that a cache evaluated which origins alone evaluate, what was due, and what came.
-fn tell_evaluated<T: Teller>(
-    condition: Condition,
-    gap: &ContentGap,
-    pair: (&ReplyClaim<'_>, &Stored),
-    teller: &mut T,
-) {
-    let ContentGap::Other {
-        due,
-        told,
-        bodies,
-        ..
-    } = gap
-    else {
-        return;
-    };
-    let (due_octets, told_octets) = match bodies {
-        Some(bodies) => (Some(bodies.due), Some(bodies.told)),
-        None => (None, None),
-    };
-    teller.words("the cache evaluated ");
-    tell_condition(condition, " against", pair, teller);
-    teller.words(", which it must not: due ");
-    say_status(*due, due_octets, teller);
-    teller.words(" as it is stored, or an answer of the origin, the reply has ");
-    say_status(*told, told_octets, teller);
+// Tells after a text of which part the reply tells, and how long the whole is.
+fn tell_range<T: Teller>(before: &str, (claim, state): Pair<'_>, teller: &mut T) {
+    let range = FieldOf::new(b"content-range", &claim.reply.head.fields);
+    teller.value("content-range", before, range);
+    teller.fact("whole_octets", state.body.len() as u64);
 }
 
 impl ContentGap {
+    // Whether it is a 304 that nothing earns.
+    fn is_unearned(&self) -> bool {
+        matches!(self.content, Content::OfNoSuccess | Content::Unearned(_))
+    }
+
+    // Whether it is the body alone that differs.
+    fn is_of_body(&self) -> bool {
+        !self.is_unearned() && self.due == self.told
+    }
+
+    /// A word for it, as `other_body`.
+    pub fn kind(&self) -> &'static str {
+        if self.is_of_body() {
+            "other_body"
+        } else {
+            "other_status"
+        }
+    }
+
+    /// Tells words for it, as `another body`.
+    pub fn name<T: Teller>(&self, teller: &mut T) {
+        if self.is_of_body() {
+            teller.words("another body");
+        } else {
+            say_status("another status: ", self.told, None, teller);
+        }
+    }
+
+    /// What is asked of the status and the body of the reply.
+    pub fn demand(&self) -> Demand {
+        match self.content {
+            Content::OfNoSuccess | Content::Unearned(_) => {
+                Demand::of("RFC 9111 section 4.3.2", WHOLE)
+            }
+            Content::Unsatisfied => Demand::of(
+                "RFC 9110 section 15.5.17",
+                "a 416 SHOULD tell by Content-Range how long the whole is",
+            ),
+            Content::Part => Demand::of(
+                "RFC 9110 section 14.2",
+                "a range is answered by the whole that is stored, or by that part of it",
+            ),
+            Content::Evaluated(_) => Demand::of(
+                "RFC 9111 section 4.3.2",
+                "a cache MUST NOT evaluate If-Match and If-Unmodified-Since: it gives what is stored, or asks the origin",
+            ),
+            Content::Failed(_) | Content::Other => Demand::of("RFC 9111 section 4", WHOLE),
+        }
+    }
+
     /// Tells how the status or the body of the reply differs from the response's.
     pub fn tell<T: Teller>(&self, claim: &ReplyClaim<'_>, state: &Stored, teller: &mut T) {
-        match self {
-            ContentGap::Unearned(unearned) => tell_unearned(*unearned, (claim, state), teller),
-            ContentGap::Other {
-                due,
-                told,
-                bodies,
-                is_part,
-                ..
-            } => {
-                teller.fact("due_status", u64::from(due.as_u16()));
-                teller.fact("told_status", u64::from(told.as_u16()));
-                if let Some(bodies) = bodies {
-                    bodies.tell(teller);
-                }
-                if *is_part {
-                    teller.known("content-range", range_of(claim));
-                    teller.fact("whole_octets", state.body.len() as u64);
-                }
-                self.say(claim, state, teller);
+        if self.is_unearned() {
+            return self.tell_unearned((claim, state), teller);
+        }
+        teller.fact("due_status", u64::from(self.due.as_u16()));
+        teller.fact("told_status", u64::from(self.told.as_u16()));
+        if let Some(bodies) = self.bodies {
+            bodies.tell(teller);
+        }
+        let pair = (claim, state);
+        match self.content {
+            // What was due in its place, and what it has (RFC 9110 section 15.5.17).
+            Content::Unsatisfied => {
+                let whole = state.body.len() as u64;
+                say_status("due ", self.due, None, teller);
+                teller.count(" with all ", whole, " octets that are stored, ");
+                teller.count("or a 416 with content-range \"bytes */", whole, "\"; ");
+                tell_range("the reply is a 416 with content-range ", pair, teller);
+            }
+            Content::Evaluated(condition) => self.tell_evaluated(condition, pair, teller),
+            Content::Part => {
+                self.say(teller);
+                tell_range("; content-range ", pair, teller);
+            }
+            Content::Failed(condition) => {
+                self.say(teller);
+                teller.words("; ");
+                condition.tell(",", pair, teller);
+            }
+            _ => self.say(teller),
+        }
+    }
+
+    fn tell_unearned<T: Teller>(&self, pair: Pair<'_>, teller: &mut T) {
+        teller.words("no condition earns the 304: ");
+        match self.content {
+            Content::Unearned(Some(condition)) => condition.tell(",", pair, teller),
+            Content::Unearned(None) => teller.words("the request has none"),
+            _ => {
+                let status = u64::from(self.due.as_u16());
+                teller.number("due_status", "its status is ", status, "");
             }
         }
     }
 
-    // Tells the same of what is no 304 that nothing earns.
-    fn say<T: Teller>(&self, claim: &ReplyClaim<'_>, state: &Stored, teller: &mut T) {
-        let ContentGap::Other {
-            due,
-            told,
-            bodies,
-            failed,
-            is_part,
-        } = self
-        else {
-            return;
+    // Tells how the statuses and the bodies differ.
+    fn say<T: Teller>(&self, teller: &mut T) {
+        let is_of_body = self.due == self.told;
+        if !is_of_body {
+            say_status("status: due ", self.due, None, teller);
+            say_status(", the reply has ", self.told, None, teller);
+        }
+        if let Some(bodies) = self.bodies {
+            teller.separator(is_of_body, "", "; ");
+            bodies.say(teller);
+        }
+    }
+
+    // Tells the condition that a cache evaluated which origins alone evaluate, what was due, and what came.
+    fn tell_evaluated<T: Teller>(&self, condition: Condition, pair: Pair<'_>, teller: &mut T) {
+        let (due, told) = match self.bodies {
+            Some(bodies) => (Some(bodies.due), Some(bodies.told)),
+            None => (None, None),
         };
-        if *told == StatusCode::RANGE_NOT_SATISFIABLE && *is_part {
-            return say_unsatisfied((claim, state), teller);
-        }
-        match failed {
-            Some(failed) if failed.is_for_origins() => {
-                return tell_evaluated(*failed, self, (claim, state), teller);
-            }
-            _ => {}
-        }
-        say_other((*due, *told), *bodies, teller);
-        if *is_part {
-            teller.words("; content-range ");
-            teller.said_value(range_of(claim));
-        }
-        if let Some(failed) = failed {
-            teller.words("; ");
-            tell_condition(*failed, ",", (claim, state), teller);
-        }
+        teller.words("the cache evaluated ");
+        condition.tell(" against", pair, teller);
+        say_status(", which it must not: due ", self.due, due, teller);
+        let before = " as it is stored, or an answer of the origin, the reply has ";
+        say_status(before, self.told, told, teller);
     }
 }

@@ -5,7 +5,7 @@ ghost use Rattle.hc_history.specs.Filters.{compared_names, names_of};
 ghost use Rattle.hc_gaps.specs.Differing.{AreDifferences, AreListed, IsGap, change_of, differs, with_name, with_names};
 
 use crate::demand::Demand;
-use crate::forms::is_same_list;
+use crate::forms::means_the_same;
 use crate::newest::NAMED;
 use hc_fields::{Field, Fields, Octets, is_among};
 use hc_head::StatusCode;
@@ -19,7 +19,13 @@ use std::alloc::{AllocError, Global};
 const MOST_LISTED: usize = 20;
 
 /// The fields that are no lists.
-const SINGLE: [&[u8]; 5] = [b"date", b"etag", b"expires", b"last-modified", b"set-cookie"];
+const SINGLE: [&[u8]; 5] = [
+    b"date",
+    b"etag",
+    b"expires",
+    b"last-modified",
+    b"set-cookie",
+];
 
 /// What became of a field.
 #[derive(Clone, Copy, PartialEq, Eq)]
@@ -33,6 +39,7 @@ pub enum Change {
 }
 
 /// A field of which a reply has other values than a stored response.
+#[derive(Drop)]
 pub struct FieldGap {
     /// Its name, in lower case.
     pub name: Octets,
@@ -40,17 +47,6 @@ pub struct FieldGap {
     pub change: Change,
     /// Whether both mean the same by it, though it is written in other ways.
     pub is_form: bool,
-}
-
-impl Drop for FieldGap {
-    fn drop(self) {
-        let FieldGap {
-            name,
-            change: _,
-            is_form: _,
-        } = self;
-        drop(name);
-    }
 }
 
 /// The fields of which a reply has other values than a stored response, each once, in the order of the reply and
@@ -91,17 +87,6 @@ fn push_names<'a>(names: &mut Vec<&'a [u8]>, lines: &'a [Field]) -> Result<(), A
     Ok(())
 }
 
-// Puts those of these names at the end that aren't there.
-fn push_each<'a>(names: &mut Vec<&'a [u8]>, more: &[&'a [u8]]) -> Result<(), AllocError>
-    ensures { OnOk result (map (λ known. known.now) names.new.items
-        ≡ with_names (map (λ known. known.now) names.old.items) (map (λ known. known.now) more.now)) }
-{
-    for name in more {
-        push_new(names, name)?;
-    }
-    Ok(())
-}
-
 // Puts the names of the reply at the end, and after them those of the stored response, each once; of a 304 after
 // them those that it has to repeat.
 fn push_compared<'a>(
@@ -113,10 +98,13 @@ fn push_compared<'a>(
         ≡ with_names (map (λ known. known.now) names.old.items) (compared_names claim.now state.now)) }
 {
     push_names(names, claim.reply.head.fields.lines())?;
-    if claim.reply.head.status == StatusCode::NOT_MODIFIED {
-        return push_each(names, &REPEATED_NAMES);
+    if claim.reply.head.status != StatusCode::NOT_MODIFIED {
+        return push_names(names, state.fields.lines());
     }
-    push_names(names, state.fields.lines())
+    for name in &REPEATED_NAMES {
+        push_new(names, name)?;
+    }
+    Ok(())
 }
 
 // What became of a field, of which the values differ.
@@ -129,95 +117,6 @@ fn change_of(claim: &ReplyClaim<'_>, state: &Stored, name: &[u8]) -> Change
         Change::Changed
     } else {
         Change::Added
-    }
-}
-
-// Whether both mean the same by it. What is no list means something by each of its octets, and each line of Set-Cookie something
-// by itself.
-fn is_form(
-    alloc: Global,
-    claim: &ReplyClaim<'_>,
-    state: &Stored,
-    name: &[u8],
-) -> Result<bool, AllocError> {
-    if is_among(&SINGLE, name) {
-        return Ok(false);
-    }
-    is_same_list(alloc, name, &claim.reply.head.fields, &state.fields)
-}
-
-impl FieldGap {
-    // What became of a name of which the values differ.
-    fn read(
-        alloc: Global,
-        claim: &ReplyClaim<'_>,
-        state: &Stored,
-        name: &[u8],
-    ) -> Result<Self, AllocError>
-        requires { differs claim.now state.now name.now ≡ true }
-        ensures is { IfOk result (IsGap claim.now state.now) }
-        ensures name { IfOk result (λ gap. gap.name ≡ name.now) }
-    {
-        Ok(FieldGap {
-            name: Octets::from_slice(alloc, name)?,
-            change: change_of(claim, state, name),
-            is_form: is_form(alloc, claim, state, name)?,
-        })
-    }
-}
-
-impl Differences {
-    // Takes in a name of which the values differ.
-    fn note(
-        &mut self,
-        alloc: Global,
-        claim: &ReplyClaim<'_>,
-        state: &Stored,
-        name: &[u8],
-    ) -> Result<(), AllocError>
-        requires { differs claim.now state.now name.now ≡ true }
-        ensures { (names : List (List ℕ)) → AreListed claim.now state.now names self.old
-            → OnOk result (AreListed claim.now state.now (names ++ name.now ∷ []) self.new) }
-    {
-        if MOST_LISTED <= self.listed.len() {
-            self.more = self.more.saturating_add(1);
-            return Ok(());
-        }
-        self.listed
-            .push(FieldGap::read(alloc, claim, state, name)?)?;
-        Ok(())
-    }
-
-    // Takes in a name, if the values differ.
-    fn take(
-        &mut self,
-        alloc: Global,
-        claim: &ReplyClaim<'_>,
-        state: &Stored,
-        name: &[u8],
-    ) -> Result<(), AllocError>
-        ensures { (names : List (List ℕ)) → AreListed claim.now state.now names self.old
-            → OnOk result (AreListed claim.now state.now (names ++ filter (differs claim.now state.now) (name.now ∷ [])) self.new) }
-    {
-        if !differs(alloc, claim, state, name)? {
-            return Ok(());
-        }
-        self.note(alloc, claim, state, name)
-    }
-
-    /// Whether one of those that are listed became so.
-    pub fn has(&self, change: Change) -> bool {
-        for gap in self.listed.iter() {
-            if gap.change == change {
-                return true;
-            }
-        }
-        false
-    }
-
-    /// Whether nothing differs.
-    pub fn is_nothing(&self) -> bool {
-        self.listed.is_empty()
     }
 }
 
@@ -238,172 +137,23 @@ pub fn compare(
         more: 0,
     };
     for name in names.as_slice() {
-        found.take(alloc, claim, state, name)?;
+        if !differs(alloc, claim, state, name)? {
+            continue;
+        }
+        if MOST_LISTED <= found.listed.len() {
+            found.more = found.more.saturating_add(1);
+            continue;
+        }
+        // What is no list means something by each octet, and each line of Set-Cookie something by itself.
+        let both = (&claim.reply.head.fields, &state.fields);
+        let is_form = !is_among(&SINGLE, name) && means_the_same(alloc, name, both, false)?;
+        found.listed.push(FieldGap {
+            name: Octets::from_slice(alloc, name)?,
+            change: change_of(claim, state, name),
+            is_form,
+        })?;
     }
     Ok(found)
-}
-
-// Whether both have the same lines of a name.
-fn has_same_lines(name: &[u8], one: &Fields, other: &Fields) -> bool {
-    let mut lines = other.values(name);
-    for line in one.values(name) {
-        if lines.next() != Some(line) {
-            return false;
-        }
-    }
-    lines.next().is_none()
-}
-
-impl Differences {
-    /// Whether the reply has of all that differs what those fields have.
-    pub fn are_of(&self, claim: &ReplyClaim<'_>, fields: &Fields) -> bool {
-        for gap in self.listed.iter() {
-            if !has_same_lines(gap.name.as_slice(), &claim.reply.head.fields, fields) {
-                return false;
-            }
-        }
-        self.more == 0
-    }
-
-    // Whether those fields have one of the names.
-    fn has_one_of(&self, fields: &Fields) -> bool {
-        for gap in self.listed.iter() {
-            if fields.contains(gap.name.as_slice()) {
-                return true;
-            }
-        }
-        false
-    }
-
-    // Whether one of them tells of the representation.
-    fn has_content(&self) -> bool {
-        for gap in self.listed.iter() {
-            if is_of_content(gap.name.as_slice()) {
-                return true;
-            }
-        }
-        false
-    }
-
-    // Whether both mean the same by one of them.
-    fn has_form(&self) -> bool {
-        for gap in self.listed.iter() {
-            if gap.is_form {
-                return true;
-            }
-        }
-        false
-    }
-
-    // Whether both mean the same by all of them that weren't added, and those that were tell of no representation.
-    fn is_form(&self) -> bool {
-        for gap in self.listed.iter() {
-            let is_plain = gap.change == Change::Added && !is_of_content(gap.name.as_slice());
-            if !gap.is_form && !is_plain {
-                return false;
-            }
-        }
-        self.more == 0 && self.has_form()
-    }
-
-    // Whether all of them were added, and none tells of the representation.
-    fn is_added(&self) -> bool {
-        self.more == 0
-            && !self.has(Change::Dropped)
-            && !self.has(Change::Changed)
-            && !self.has_content()
-    }
-
-    // Whether the Date differs, and those fields don't have it.
-    fn has_own_date(&self, renewed: Option<&Fields>) -> bool {
-        for gap in self.listed.iter() {
-            if gap.name.as_slice() == b"date".as_slice() {
-                return !has_renewed(gap.name.as_slice(), renewed);
-            }
-        }
-        false
-    }
-}
-
-// Whether the 304 that freshened the response last, which has those fields if it is known, has the name.
-fn has_renewed(name: &[u8], renewed: Option<&Fields>) -> bool {
-    match renewed {
-        Some(renewed) => renewed.contains(name),
-        None => false,
-    }
-}
-
-const OF_304: Demand = Demand {
-    sections: "RFC 9110 section 15.4.5",
-    words: "a 304 MUST have the stored response's Cache-Control, Content-Location, Date, ETag, Expires and Vary",
-};
-
-const DATE: Demand = Demand {
-    sections: "RFC 9110 section 6.6.1",
-    words: "what comes without a Date MUST get one: the moment at which it came",
-};
-
-const RENEWED: Demand = Demand {
-    sections: "RFC 9111 section 4.3.4",
-    words: "the fields of a 304 MUST replace those of the stored response that it is about",
-};
-
-const DROPPED: Demand = Demand {
-    sections: "RFC 9111 section 3.1",
-    words: "a cache MUST store all fields of a response but those of the connection, and what a hit lacks of them counts as not stored",
-};
-
-const CHANGED: Demand = Demand {
-    sections: "RFC 9110 section 7.7",
-    words: "a proxy SHOULD NOT modify the fields that tell of the resource or of its representation",
-};
-
-const ADDED_CONTENT: Demand = Demand {
-    sections: "RFC 9110 section 7.7",
-    words: "a proxy SHOULD NOT modify what tells of a representation, and to add such a field, as a Content-Type, is that, too",
-};
-
-const ADDED: Demand = Demand {
-    sections: "no RFC (RFC 9110 section 7.7 doesn't forbid this), but this auditor's stricter rule",
-    words: "a reply has no field that the stored response hasn't, but for --allow added-fields",
-};
-
-const SAME_LIST: Demand = Demand {
-    sections: "no RFC (RFC 9110 sections 5.3 and 5.6.1 let lines be joined, and space in lists means nothing), but this auditor's stricter rule",
-    words: "a reply has the stored response's fields as they are written, line by line",
-};
-
-impl Differences {
-    /// What is asked of the fields of a reply of that status, where those of the response come from that.
-    pub fn demand(&self, status: StatusCode, origin: FieldsOrigin<'_>) -> Demand {
-        let renewed = origin.renewed();
-        if origin.is_undated() && self.has_own_date(renewed) {
-            return DATE;
-        }
-        if self.is_form() {
-            return SAME_LIST;
-        }
-        if status == StatusCode::NOT_MODIFIED && !self.is_added() {
-            return OF_304;
-        }
-        match renewed {
-            Some(renewed) if self.has_one_of(renewed) => RENEWED,
-            _ => self.demand_of_change(),
-        }
-    }
-
-    // What is asked by what became of the fields.
-    fn demand_of_change(&self) -> Demand {
-        if self.has(Change::Dropped) {
-            DROPPED
-        } else if self.has(Change::Changed) {
-            CHANGED
-        } else if self.has_content() {
-            ADDED_CONTENT
-        } else {
-            ADDED
-        }
-    }
 }
 
 impl Change {
@@ -428,25 +178,19 @@ pub struct FieldsOrigin<'a> {
     pub first: Option<&'a Fields>,
 }
 
-impl<'a> FieldsOrigin<'a> {
-    // The fields of the 304 that freshened it last.
-    fn renewed(&self) -> Option<&'a Fields> {
-        let (_, renewed) = self.validator?;
-        Some(renewed)
-    }
-
-    /// Whether the response is known to have come without a Date.
-    pub(crate) fn is_undated(&self) -> bool {
-        match self.first {
-            Some(first) => !first.contains(b"date"),
+impl FieldsOrigin<'_> {
+    // Whether the 304 that freshened it last is known to have that field.
+    fn has_renewed(&self, name: &[u8]) -> bool {
+        match self.validator {
+            Some((_, renewed)) => renewed.contains(name),
             None => false,
         }
     }
 
-    // Whether the response is known to have come with other lines of that name than those.
-    fn came_otherwise(&self, name: &[u8], stored: &Fields) -> bool {
+    // Whether the response is known to have come without a Date.
+    fn is_undated(&self) -> bool {
         match self.first {
-            Some(first) => !has_same_lines(name, first, stored),
+            Some(first) => !first.contains(b"date"),
             None => false,
         }
     }
@@ -454,6 +198,10 @@ impl<'a> FieldsOrigin<'a> {
     // Tells of which record a value is that is due.
     fn say<T: Teller>(&self, name: &[u8], stored: &Fields, teller: &mut T) {
         let is_date = name == b"date".as_slice();
+        let came_otherwise = match self.first {
+            Some(first) => !first.values(name).eq(stored.values(name)),
+            None => false,
+        };
         match self.validator {
             Some((validator, renewed)) if renewed.contains(name) => {
                 teller.record(" (of the 304 ", validator);
@@ -463,7 +211,7 @@ impl<'a> FieldsOrigin<'a> {
                 teller.record(" (when the 304 ", validator);
                 teller.words(" came, which has no Date)");
             }
-            Some(_) if self.came_otherwise(name, stored) => teller.words(" (of a 304 before that)"),
+            Some(_) if came_otherwise => teller.words(" (of a 304 before that)"),
             None if is_date && self.is_undated() => {
                 let after = " came, which has no Date)";
                 teller.count(" (when ", self.position, after);
@@ -473,15 +221,12 @@ impl<'a> FieldsOrigin<'a> {
     }
 }
 
+// What a reply claims, a stored response, and what its fields come from.
+type Sides<'a> = (&'a ReplyClaim<'a>, &'a Stored, &'a FieldsOrigin<'a>);
+
 impl FieldGap {
     // Tells what is due of the field, and what the reply has.
-    fn tell<T: Teller>(
-        &self,
-        claim: &ReplyClaim<'_>,
-        state: &Stored,
-        origin: FieldsOrigin<'_>,
-        teller: &mut T,
-    ) {
+    fn tell<T: Teller>(&self, (claim, state, origin): Sides<'_>, teller: &mut T) {
         let name = self.name.as_slice();
         teller.octets("name", "", name);
         teller.word("change", self.change.word());
@@ -493,6 +238,98 @@ impl FieldGap {
 }
 
 impl Differences {
+    /// Whether one of those that are listed became so.
+    pub fn has(&self, change: Change) -> bool {
+        for gap in self.listed.iter() {
+            if gap.change == change {
+                return true;
+            }
+        }
+        false
+    }
+
+    /// Whether nothing differs.
+    pub fn is_nothing(&self) -> bool {
+        self.listed.is_empty()
+    }
+
+    // Whether both mean the same by all of them that weren't added, of which there is one, and those that were tell of no
+    // representation.
+    fn is_form(&self) -> bool {
+        let mut has_form = false;
+        for gap in self.listed.iter() {
+            let is_plain = gap.change == Change::Added && !is_of_content(gap.name.as_slice());
+            if !gap.is_form && !is_plain {
+                return false;
+            }
+            has_form = has_form || gap.is_form;
+        }
+        has_form && self.more == 0
+    }
+
+    /// What is asked of the fields of a reply of that status, where those of the response come from that.
+    pub fn demand(&self, status: StatusCode, origin: FieldsOrigin<'_>) -> Demand {
+        let (mut has_date, mut has_content, mut is_renewed) = (false, false, false);
+        for gap in self.listed.iter() {
+            let name = gap.name.as_slice();
+            let has_renewed = origin.has_renewed(name);
+            has_date = has_date || (name == b"date".as_slice() && !has_renewed);
+            has_content = has_content || is_of_content(name);
+            is_renewed = is_renewed || has_renewed;
+        }
+        if origin.is_undated() && has_date {
+            return Demand::of(
+                "RFC 9110 section 6.6.1",
+                "what comes without a Date MUST get one: the moment at which it came",
+            );
+        }
+        if self.is_form() {
+            return Demand::of(
+                "no RFC (RFC 9110 sections 5.3 and 5.6.1 let lines be joined, and space in lists means nothing), but this auditor's stricter rule",
+                "a reply has the stored response's fields as they are written, line by line",
+            );
+        }
+        let is_changed = self.more != 0 || self.has(Change::Dropped) || self.has(Change::Changed);
+        if status == StatusCode::NOT_MODIFIED && (is_changed || has_content) {
+            return Demand::of(
+                "RFC 9110 section 15.4.5",
+                "a 304 MUST have the stored response's Cache-Control, Content-Location, Date, ETag, Expires and Vary",
+            );
+        }
+        if is_renewed {
+            return Demand::of(
+                "RFC 9111 section 4.3.4",
+                "the fields of a 304 MUST replace those of the stored response that it is about",
+            );
+        }
+        self.demand_of_change(has_content)
+    }
+
+    // What is asked by what became of the fields, of which one tells of the representation or none does.
+    fn demand_of_change(&self, has_content: bool) -> Demand {
+        if self.has(Change::Dropped) {
+            Demand::of(
+                "RFC 9111 section 3.1",
+                "a cache MUST store all fields of a response but those of the connection, and what a hit lacks of them counts as not stored",
+            )
+        } else if self.has(Change::Changed) {
+            Demand::of(
+                "RFC 9110 section 7.7",
+                "a proxy SHOULD NOT modify the fields that tell of the resource or of its representation",
+            )
+        } else if has_content {
+            Demand::of(
+                "RFC 9110 section 7.7",
+                "a proxy SHOULD NOT modify what tells of a representation, and to add such a field, as a Content-Type, is that, too",
+            )
+        } else {
+            Demand::of(
+                "no RFC (RFC 9110 section 7.7 doesn't forbid this), but this auditor's stricter rule",
+                "a reply has no field that the stored response hasn't, but for --allow added-fields",
+            )
+        }
+    }
+
     // Writes each with that change and what it is, with a comma after whatever stands before it.
     fn name_each(&self, change: Change, is_first: bool, page: &mut Page) -> bool {
         let mut is_first = is_first;
@@ -519,8 +356,7 @@ impl Differences {
     fn tell_changed<T: Teller>(
         &self,
         change: Change,
-        (claim, state): (&ReplyClaim<'_>, &Stored),
-        origin: FieldsOrigin<'_>,
+        sides: Sides<'_>,
         before: usize,
         teller: &mut T,
     ) -> usize {
@@ -528,39 +364,20 @@ impl Differences {
         for gap in self.listed.iter() {
             if gap.change == change && said < NAMED {
                 teller.separator(said == 0, "", "; ");
-                gap.tell(claim, state, origin, teller);
+                gap.tell(sides, teller);
                 said += 1;
             }
         }
         said
     }
 
-    // Tells each as far as they are named, with what is due and what the reply has.
-    fn tell_named<T: Teller>(
-        &self,
-        pair: (&ReplyClaim<'_>, &Stored),
-        origin: FieldsOrigin<'_>,
-        teller: &mut T,
-    ) {
-        let said = self.tell_changed(Change::Dropped, pair, origin, 0, teller);
-        let said = self.tell_changed(Change::Changed, pair, origin, said, teller);
-        let said = self.tell_changed(Change::Added, pair, origin, said, teller);
-        let unsaid = self.listed.len().saturating_sub(said) as u64;
-        teller.say_more(self.more.saturating_add(unsaid));
-    }
-
-    // Tells an object each that is listed, with what is due and what the reply has.
-    fn tell_listed<T: Teller>(
-        &self,
-        (claim, state): (&ReplyClaim<'_>, &Stored),
-        origin: FieldsOrigin<'_>,
-        teller: &mut T,
-    ) {
+    // Tells an object of each that is listed.
+    fn tell_listed<T: Teller>(&self, sides: Sides<'_>, teller: &mut T) {
         teller.fact("more_fields", self.more);
         teller.begin_list("fields");
         for gap in self.listed.iter() {
             teller.begin_item();
-            gap.tell(claim, state, origin, teller);
+            gap.tell(sides, teller);
             teller.end();
         }
         teller.end();
@@ -569,14 +386,18 @@ impl Differences {
     /// Tells what is due of each, and what the reply has: a text of the first of them, an object of all that are listed.
     pub fn tell<T: Teller>(
         &self,
-        pair: (&ReplyClaim<'_>, &Stored),
+        (claim, state): (&ReplyClaim<'_>, &Stored),
         origin: FieldsOrigin<'_>,
         teller: &mut T,
     ) {
-        if teller.is_text() {
-            self.tell_named(pair, origin, teller);
-        } else {
-            self.tell_listed(pair, origin, teller);
+        let sides = (claim, state, &origin);
+        if !teller.is_text() {
+            return self.tell_listed(sides, teller);
         }
+        let said = self.tell_changed(Change::Dropped, sides, 0, teller);
+        let said = self.tell_changed(Change::Changed, sides, said, teller);
+        let said = self.tell_changed(Change::Added, sides, said, teller);
+        let unsaid = self.listed.len().saturating_sub(said) as u64;
+        teller.say_more(self.more.saturating_add(unsaid));
     }
 }

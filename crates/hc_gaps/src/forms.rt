@@ -1,7 +1,6 @@
 //! Values that mean the same though they are written in other ways, and fields that a directive names.
 
-use hc_fields::{Fields, Octets, list_members};
-use hc_shown::FieldOf;
+use hc_fields::{Fields, Octets, is_among, list_members};
 use std::alloc::{AllocError, Global};
 
 /// The fields that are lists without an order, in which letters may be of either case (RFC 9110 section 12.5).
@@ -12,24 +11,23 @@ const PREFERENCES: [&[u8]; 4] = [
     b"accept-language",
 ];
 
-// A value of which the blanks beside commas and semicolons are left out, but for those in quoted strings.
-struct Tight {
-    octets: Vec<u8>,
-    // How many blanks it ends with.
-    blanks: usize,
-    is_quoted: bool,
-    is_escaped: bool,
+// Where an octet of a value stands.
+#[derive(Clone, Copy)]
+enum Place {
+    Plain,
+    Quoted,
+    Escaped,
 }
 
-impl Drop for Tight {
-    fn drop(self) {
-        let Tight {
-            octets,
-            blanks: _,
-            is_quoted: _,
-            is_escaped: _,
-        } = self;
-        drop(octets);
+impl Place {
+    // Where the octet after that one stands.
+    fn after(self, octet: u8) -> Self {
+        match (self, octet) {
+            (Place::Plain, b'"') | (Place::Escaped, _) => Place::Quoted,
+            (Place::Quoted, b'\\') => Place::Escaped,
+            (Place::Quoted, b'"') => Place::Plain,
+            _ => self,
+        }
     }
 }
 
@@ -38,114 +36,50 @@ fn separates(octet: u8) -> bool {
     octet == b',' || octet == b';'
 }
 
-impl Tight {
-    // Takes in the next octet of a quoted string.
-    fn take_quoted(&mut self, octet: u8) -> Result<(), AllocError> {
-        if self.is_escaped {
-            self.is_escaped = false;
-        } else if octet == b'\\' {
-            self.is_escaped = true;
-        } else if octet == b'"' {
-            self.is_quoted = false;
-        }
-        self.octets.push(octet)?;
-        Ok(())
-    }
-
-    // Whether nothing stands before the next octet, or what separates.
-    fn is_at_separator(&self) -> bool {
-        match self.octets.last() {
-            Some(last) => separates(*last),
-            None => true,
-        }
-    }
-
-    // Takes in a blank.
-    fn take_blank(&mut self, octet: u8) -> Result<(), AllocError> {
-        if self.is_at_separator() {
-            return Ok(());
-        }
-        self.octets.push(octet)?;
-        self.blanks = self.blanks.saturating_add(1);
-        Ok(())
-    }
-
-    // Leaves out the blanks at the end.
-    fn leave_blanks(&mut self) {
-        let left = self.octets.len().saturating_sub(self.blanks);
-        self.octets.truncate(left);
-        self.blanks = 0;
-    }
-
-    // Takes in the next octet that isn't quoted.
-    fn take_plain(&mut self, octet: u8) -> Result<(), AllocError> {
-        if octet == b' ' || octet == b'\t' {
-            return self.take_blank(octet);
-        }
-        if separates(octet) {
-            self.leave_blanks();
-        }
-        self.blanks = 0;
-        self.is_quoted = octet == b'"';
-        self.octets.push(octet)?;
-        Ok(())
-    }
-
-    // Takes in the next octet.
-    fn take(&mut self, octet: u8) -> Result<(), AllocError> {
-        if self.is_quoted {
-            self.take_quoted(octet)
-        } else {
-            self.take_plain(octet)
-        }
-    }
-
-    // What was taken in, which is moved.
-    fn into_octets(self) -> Octets {
-        let Tight {
-            octets,
-            blanks: _,
-            is_quoted: _,
-            is_escaped: _,
-        } = self;
-        Octets::from_vec(octets)
-    }
-
-    // Takes in all those octets.
-    fn take_all(&mut self, octets: &[u8]) -> Result<(), AllocError> {
-        for octet in octets {
-            self.take(*octet)?;
-        }
-        self.leave_blanks();
-        Ok(())
+// Whether nothing stands at the end of those octets, or what separates.
+fn ends_at_separator(octets: &[u8]) -> bool {
+    match octets.last() {
+        Some(last) => separates(*last),
+        None => true,
     }
 }
 
-// Those octets without the blanks beside commas and semicolons.
-fn tightened(alloc: Global, octets: &[u8]) -> Result<Octets, AllocError> {
-    let mut tight = Tight {
-        octets: Vec::new(alloc),
-        blanks: 0,
-        is_quoted: false,
-        is_escaped: false,
+// Puts those octets at the end of none, without the blanks beside commas and semicolons, but for those in quoted strings.
+fn tighten(octets: &[u8], tight: &mut Vec<u8>) -> Result<(), AllocError> {
+    let mut without_blanks: usize = 0;
+    let mut place = Place::Plain;
+    for octet in octets {
+        let is_plain = matches!(place, Place::Plain);
+        let is_blank = is_plain && (*octet == b' ' || *octet == b'\t');
+        if is_plain && separates(*octet) {
+            tight.truncate(without_blanks);
+        }
+        if !is_blank || !ends_at_separator(tight.as_slice()) {
+            tight.push(*octet)?;
+        }
+        if !is_blank {
+            without_blanks = tight.len();
+        }
+        place = place.after(*octet);
+    }
+    tight.truncate(without_blanks);
+    Ok(())
+}
+
+// What those fields have of a name in lower case, without such blanks; none where there is none.
+fn tight_of(alloc: Global, name: &[u8], fields: &Fields) -> Result<Option<Octets>, AllocError> {
+    let Some(value) = fields.joined(alloc, name)? else {
+        return Ok(None);
     };
-    let taken = tight.take_all(octets);
-    taken?;
-    Ok(tight.into_octets())
-}
-
-// What a message has of a field, without the blanks beside commas and semicolons; none where there is none.
-fn tight_of(alloc: Global, field: FieldOf<'_>) -> Result<Option<Octets>, AllocError> {
-    match field.joined(alloc)? {
-        Some(value) => Ok(Some(tightened(alloc, value.as_slice())?)),
-        None => Ok(None),
-    }
+    let mut tight = Vec::new(alloc);
+    tighten(value.as_slice(), &mut tight)?;
+    Ok(Some(Octets::from_vec(tight)))
 }
 
 // How often a thing of a list stands in it, in either case.
-fn count_in(list: &[u8], wanted: &[u8]) -> usize {
+fn count_in(list: &Octets, wanted: &[u8]) -> usize {
     let mut count: usize = 0;
-    for member in list_members(list) {
+    for member in list_members(list.as_slice()) {
         if member.eq_ignore_ascii_case(wanted) {
             count = count.saturating_add(1);
         }
@@ -154,8 +88,8 @@ fn count_in(list: &[u8], wanted: &[u8]) -> usize {
 }
 
 // Whether each thing of the one list stands in both equally often, in either case.
-fn has_all(one: &[u8], other: &[u8]) -> bool {
-    for member in list_members(one) {
+fn has_all(one: &Octets, other: &Octets) -> bool {
+    for member in list_members(one.as_slice()) {
         if count_in(one, member) != count_in(other, member) {
             return false;
         }
@@ -163,51 +97,23 @@ fn has_all(one: &[u8], other: &[u8]) -> bool {
     true
 }
 
-// Whether a field of that name is a list of preferences.
-fn is_preference(name: &[u8]) -> bool {
-    for known in &PREFERENCES {
-        if name.eq_ignore_ascii_case(known) {
-            return true;
-        }
-    }
-    false
-}
-
 /// Whether both have the field, and mean the same by it though it may be written in other ways: with blanks beside commas and
-/// semicolons, or in several lines (RFC 9110 sections 5.3 and 5.6.1).
-pub fn is_same_list(
+/// semicolons, or in several lines (RFC 9110 sections 5.3 and 5.6.1). Where Vary selects by it, the order and the case of letters
+/// mean nothing either in a list of preferences (RFC 9111 section 4.1, RFC 9110 section 12.5).
+pub fn means_the_same(
     alloc: Global,
     name: &[u8],
-    one: &Fields,
-    other: &Fields,
+    (one, other): (&Fields, &Fields),
+    is_selector: bool,
 ) -> Result<bool, AllocError> {
-    let one = tight_of(alloc, FieldOf::new(name, one))?;
-    let other = tight_of(alloc, FieldOf::new(name, other))?;
-    Ok(one.is_some() && one == other)
-}
-
-/// The same where Vary selects by the field: of a list of preferences the order and the case of letters mean nothing either
-/// (RFC 9111 section 4.1, RFC 9110 section 12.5).
-pub fn is_same_selector(
-    alloc: Global,
-    name: &[u8],
-    one: &Fields,
-    other: &Fields,
-) -> Result<bool, AllocError> {
-    if !is_preference(name) {
-        return is_same_list(alloc, name, one, other);
-    }
-    let one = tight_of(alloc, FieldOf::new(name, one))?;
-    let other = tight_of(alloc, FieldOf::new(name, other))?;
-    match (&one, &other) {
-        (Some(one), Some(other)) => {
-            Ok(
-                has_all(one.as_slice(), other.as_slice())
-                    && has_all(other.as_slice(), one.as_slice()),
-            )
-        }
-        _ => Ok(false),
-    }
+    let name = name.to_ascii_lowercase(alloc)?;
+    let one = tight_of(alloc, name.as_slice(), one)?;
+    let other = tight_of(alloc, name.as_slice(), other)?;
+    let (Some(one), Some(other)) = (&one, &other) else {
+        return Ok(false);
+    };
+    let is_preference = is_selector && is_among(&PREFERENCES, name.as_slice());
+    Ok(one == other || (is_preference && has_all(one, other) && has_all(other, one)))
 }
 
 /// Of which fields alone a response says something by a directive.
@@ -231,9 +137,13 @@ fn has_any_case(name: &[u8], fields: &Fields) -> bool {
     false
 }
 
-// Whether one of the fields that an argument names is among both.
+// Whether one of the fields that an argument names, between quotes or not, is among both.
 fn has_named(argument: &[u8], one: &Fields, other: &Fields) -> bool {
-    for name in list_members(argument) {
+    let names = match argument {
+        [b'"', inner @ .., b'"'] => inner,
+        _ => argument,
+    };
+    for name in list_members(names) {
         if has_any_case(name, one) && has_any_case(name, other) {
             return true;
         }
@@ -241,27 +151,13 @@ fn has_named(argument: &[u8], one: &Fields, other: &Fields) -> bool {
     false
 }
 
-// What stands between the quotes of an argument, or all of one that isn't quoted.
-fn unquoted(argument: &[u8]) -> &[u8] {
-    match argument {
-        [b'"', inner @ .., b'"'] => inner,
-        _ => argument,
-    }
-}
-
-// The argument of that directive, if the member is one and has one; and whether it is one.
-fn argument_of<'a>(member: &'a [u8], directive: &[u8]) -> (bool, Option<&'a [u8]>) {
-    if member.len() < directive.len() {
-        return (false, None);
-    }
-    let (name, rest) = member.split_at(directive.len());
-    if !name.eq_ignore_ascii_case(directive) {
-        return (false, None);
-    }
-    match rest.split_first() {
-        None => (true, None),
-        Some((b'=', argument)) => (true, Some(unquoted(argument))),
-        Some(_) => (false, None),
+// What stands in a member after that directive; none where it begins otherwise.
+fn after_directive<'a>(member: &'a [u8], directive: &[u8]) -> Option<&'a [u8]> {
+    let (name, rest) = member.split_at_checked(directive.len())?;
+    if name.eq_ignore_ascii_case(directive) {
+        Some(rest)
+    } else {
+        None
     }
 }
 
@@ -270,11 +166,17 @@ fn argument_of<'a>(member: &'a [u8], directive: &[u8]) -> (bool, Option<&'a [u8]
 pub fn qualified_by(directive: &[u8], response: &Fields, reply: &Fields) -> Qualified {
     let mut found = Qualified::Wholly;
     for member in response.members(b"cache-control") {
-        match argument_of(member, directive) {
-            (false, _) => {}
-            (true, None) => return Qualified::Wholly,
-            (true, Some(named)) if has_named(named, response, reply) => return Qualified::Kept,
-            (true, Some(_)) => found = Qualified::LeftOut,
+        let Some(rest) = after_directive(member, directive) else {
+            continue;
+        };
+        if rest.is_empty() {
+            return Qualified::Wholly;
+        }
+        if let Some(named) = rest.strip_prefix(b"=") {
+            if has_named(named, response, reply) {
+                return Qualified::Kept;
+            }
+            found = Qualified::LeftOut;
         }
     }
     found

@@ -17,21 +17,17 @@ mod stale;
 mod storing;
 mod usage;
 
-pub use against::{Against, STORABLE_304, Telling, agree, first_against};
-pub use aging::{AgeGap, AgeOrigin, AgeParts, AgeTold, Aged, TTL, TtlGap, age_gap, ttl_gap};
-pub use contents::{
-    BodyGap, Condition, ContentGap, PERMITTED_PART, Unearned, body_gap, content_gap, has_body,
-};
-pub use demand::{
-    COLLAPSED_ANSWER, Demand, FORWARDED_ANSWER, MARK, NO_HIT, ONE_MARK, STORED_ANSWER,
-};
+pub use against::{Against, STORABLE_304, agree, first_against};
+pub use aging::{AgeGap, AgeOrigin, Aged, TTL, TtlGap, age_gap, ttl_gap};
+pub use contents::{BodyGap, ContentGap, PERMITTED_PART, body_gap, content_gap, has_body};
+pub use demand::{Demand, NO_HIT, STORED_ANSWER};
 pub use differing::{Change, Differences, FieldGap, FieldsOrigin, compare};
 pub use forms::{Qualified, qualified_by};
 pub use laws::{least_setting_permits, named_permit_permits, no_setting_permits};
 pub use newest::{NAMED, Newest};
-pub use permits::{Permit, StaleUse, stale_use};
+pub use permits::{StaleUse, stale_use};
 pub use rules::{Rule, rule_behind};
-pub use selecting::{Selection, UnmetMember, unmet_members};
-pub use stale::{Setting, StaleSaid};
+pub use selecting::{Selection, unmet_members};
+pub use stale::Setting;
 pub use storing::{Forbids, PRIVATE_FIELDS, what_forbids};
 pub use usage::{Unusable, Usage, usage_at};

@@ -44,21 +44,12 @@ impl<T: Drop> Newest<T> {
         ensures older { OnOk result (self.new.older
             ≡ (if nat_le NAMED (vec_len self.old.named) then min (self.old.older + 1) (2 ^ 64 - 1) else self.old.older)) }
     {
-        self.make_room();
-        self.named.push(newer)?;
-        Ok(())
-    }
-
-    // Counts the oldest instead of naming it, where as many are named as may be.
-    fn make_room(&mut self)
-        ensures named { self.new.named.items ≡ drop (vec_len self.old.named + 1 - NAMED) self.old.named.items }
-        ensures older { self.new.older ≡ (if nat_le NAMED (vec_len self.old.named) then min (self.old.older + 1) (2 ^ 64 - 1) else self.old.older) }
-        ensures room { vec_len self.new.named < NAMED }
-    {
         if NAMED <= self.named.len() {
             drop(self.named.remove(0));
             self.older = self.older.saturating_add(1);
         }
+        self.named.push(newer)?;
+        Ok(())
     }
 
     /// Whether there is nothing.

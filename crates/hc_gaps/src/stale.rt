@@ -2,8 +2,9 @@
 //! would permit more.
 
 ghost use Rattle.std.specs.Prelude.{◌≡◌, min};
-ghost use Rattle.hc_gaps.specs.Stale.{fitting, greater, least_grace, least_lifetime, most_seconds, seconds_in, setting_of, settings_with, stale_said_of, takes_lifetime, tolerated, told_setting};
+ghost use Rattle.hc_gaps.specs.Stale.{greater, most_seconds, seconds_in, settings_with, stale_said_of, takes_lifetime, tolerated, told_setting};
 
+use crate::usage::seconds;
 use hc_directives::Seconds;
 use hc_fresh::{explicit, says, seconds_said, stale_forbidden, staleness};
 use hc_history::{ReplyClaim, Settings, age_of, lifetime_of};
@@ -14,16 +15,12 @@ use hc_update::Stored;
 /// The most seconds that an option takes.
 const MOST_SECONDS: u64 = 2_147_483_648;
 
-/// What a response, and the request of a reply, say of how stale it may be served.
+/// What a response says of how stale it may be served, and what the request of a reply asks.
 #[derive(Clone, Copy)]
 pub struct StaleSaid {
-    /// The `max-stale` of the request.
     pub max_stale: Seconds,
-    /// The `stale-while-revalidate` of the response.
     pub while_revalidating: Seconds,
-    /// Its `stale-if-error`.
     pub if_error: Seconds,
-    /// That of the request.
     pub asked_if_error: Seconds,
 }
 
@@ -78,10 +75,8 @@ fn tolerated(claim: &ReplyClaim<'_>, state: &Stored) -> Option<u32>
         return None;
     }
     let said = stale_said(claim, state);
-    let by_both = greater(
-        seconds_in(said.max_stale),
-        seconds_in(said.while_revalidating),
-    );
+    let (while_stale, meanwhile) = (said.max_stale, said.while_revalidating);
+    let by_both = greater(seconds_in(while_stale), seconds_in(meanwhile));
     let ever = greater(claim.settings.allowed.grace, by_both);
     if claim.has_error || claim.has_failure {
         let on_error = greater(seconds_in(said.if_error), seconds_in(said.asked_if_error));
@@ -89,26 +84,6 @@ fn tolerated(claim: &ReplyClaim<'_>, state: &Stored) -> Option<u32>
     } else {
         ever
     }
-}
-
-// The least lifetime with which the response is fresh, or no staler than is permitted.
-fn least_lifetime(claim: &ReplyClaim<'_>, state: &Stored) -> u64
-    ensures { result ≡ least_lifetime claim.now state.now }
-{
-    let age = u64::from(age_of(claim, state));
-    let slack = u64::from(claim.settings.slack);
-    match tolerated(claim, state) {
-        Some(seconds) => age.saturating_sub(u64::from(seconds) + slack),
-        None => (age + 1).saturating_sub(slack),
-    }
-}
-
-// The least grace with which the response is no staler than is permitted.
-fn least_grace(claim: &ReplyClaim<'_>, state: &Stored) -> u64
-    ensures { result ≡ least_grace claim.now state.now }
-{
-    let stale = staleness(lifetime_of(state), age_of(claim, state));
-    u64::from(stale.saturating_sub(claim.settings.slack))
 }
 
 /// Whether the response may be given a lifetime.
@@ -119,47 +94,34 @@ pub(crate) fn takes_lifetime(state: &Stored) -> bool
         && (says(b"public", &state.fields) || is_heuristically_cacheable(state.status))
 }
 
-// The setting by which the response may be used that may not be used without, if there is one.
-fn helping_setting(claim: &ReplyClaim<'_>, state: &Stored) -> Option<Setting>
-    ensures { result ≡ setting_of claim.now state.now }
-{
-    if says(b"no-cache", &state.fields) {
-        None
-    } else if takes_lifetime(state) {
-        Some(Setting::DefaultLifetime(least_lifetime(claim, state)))
-    } else if stale_forbidden(&state.fields) {
-        None
-    } else {
-        Some(Setting::Grace(least_grace(claim, state)))
-    }
-}
-
-// That setting, if an option takes its seconds.
-fn fitting(setting: Option<Setting>) -> Option<Setting>
-    ensures { result ≡ fitting setting }
-{
-    match setting {
-        None => None,
-        Some(Setting::DefaultLifetime(seconds)) => {
-            if MOST_SECONDS < seconds {
-                return None;
-            }
-            Some(Setting::DefaultLifetime(seconds))
-        }
-        Some(Setting::Grace(seconds)) => {
-            if MOST_SECONDS < seconds {
-                return None;
-            }
-            Some(Setting::Grace(seconds))
-        }
-    }
-}
-
 /// The setting by which the response may be used that may not be used without, if there is one that an option takes.
 pub(crate) fn told_setting(claim: &ReplyClaim<'_>, state: &Stored) -> Option<Setting>
     ensures { result ≡ told_setting claim.now state.now }
 {
-    fitting(helping_setting(claim, state))
+    if says(b"no-cache", &state.fields) {
+        return None;
+    }
+    if takes_lifetime(state) {
+        let (age, slack) = (age_of(claim, state), u64::from(claim.settings.slack));
+        let least = match tolerated(claim, state) {
+            Some(seconds) => u64::from(age).saturating_sub(u64::from(seconds) + slack),
+            None => (u64::from(age) + 1).saturating_sub(slack),
+        };
+        if MOST_SECONDS < least {
+            return None;
+        }
+        return Some(Setting::DefaultLifetime(least));
+    }
+    if stale_forbidden(&state.fields) {
+        return None;
+    }
+    let stale = staleness(lifetime_of(state), age_of(claim, state));
+    let least = u64::from(stale.saturating_sub(claim.settings.slack));
+    if MOST_SECONDS < least {
+        None
+    } else {
+        Some(Setting::Grace(least))
+    }
 }
 
 // Those seconds, or as many as settings may have.
@@ -194,36 +156,23 @@ impl Setting {
 
 /// The seconds of a directive that says a number.
 pub(crate) fn number_in(said: Seconds) -> Option<u64> {
-    match said {
-        Seconds::Value(seconds) => Some(u64::from(seconds)),
-        Seconds::Absent | Seconds::Bare | Seconds::Unreadable => None,
-    }
+    seconds(seconds_in(said))
 }
 
-// Tells by how much a response is staler than a directive permits, if that says a number.
-fn say_over<T: Teller>(stale: u32, (name, said): (&str, Seconds), of: &str, teller: &mut T) {
+// Tells by how much a response that is so stale is staler than a directive of a message permits, or that there was no error for
+// it, if that says a number.
+fn say_over<T: Teller>(stale: Option<u32>, name: &str, said: Seconds, of: &str, teller: &mut T) {
     let Seconds::Value(seconds) = said else {
         return;
     };
-    teller.count("; ", u64::from(stale.saturating_sub(seconds)), " over ");
+    match stale {
+        Some(stale) => {
+            teller.count("; ", u64::from(stale.saturating_sub(seconds)), " over ");
+        }
+        None => teller.words("; no error for "),
+    }
     teller.words(name);
     teller.count(" ", u64::from(seconds), " of the ");
-    teller.words(of);
-}
-
-// Tells the same of `stale-if-error`, or that there was no error.
-fn say_if_error<T: Teller>(stale: u32, had_error: bool, said: Seconds, of: &str, teller: &mut T) {
-    let Seconds::Value(seconds) = said else {
-        return;
-    };
-    if had_error {
-        return say_over(stale, ("stale-if-error", said), of, teller);
-    }
-    teller.count(
-        "; no error for stale-if-error ",
-        u64::from(seconds),
-        " of the ",
-    );
     teller.words(of);
 }
 
@@ -238,10 +187,17 @@ impl StaleSaid {
 
     /// Tells by how much a response that is so stale is staler than is permitted.
     pub(crate) fn say_over<T: Teller>(&self, stale: u32, had_error: bool, teller: &mut T) {
-        let meanwhile = ("stale-while-revalidate", self.while_revalidating);
-        say_over(stale, meanwhile, "response", teller);
-        say_over(stale, ("max-stale", self.max_stale), "request", teller);
-        say_if_error(stale, had_error, self.if_error, "response", teller);
-        say_if_error(stale, had_error, self.asked_if_error, "request", teller);
+        let (always, on_error) = (Some(stale), if had_error { Some(stale) } else { None });
+        let (meanwhile, if_error) = ("stale-while-revalidate", "stale-if-error");
+        say_over(
+            always,
+            meanwhile,
+            self.while_revalidating,
+            "response",
+            teller,
+        );
+        say_over(always, "max-stale", self.max_stale, "request", teller);
+        say_over(on_error, if_error, self.if_error, "response", teller);
+        say_over(on_error, if_error, self.asked_if_error, "request", teller);
     }
 }

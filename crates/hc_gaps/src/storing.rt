@@ -12,7 +12,7 @@ use hc_rules::{invites_storing, is_storable, is_understood, permits_authorized};
 use hc_shown::Teller;
 
 /// What forbids to store a response: each by itself.
-#[derive(Clone, Copy, PartialEq, Eq)]
+#[derive(Clone, Copy)]
 pub struct Forbids {
     /// The request is no GET.
     pub method: bool,
@@ -32,8 +32,7 @@ pub struct Forbids {
     pub uninvited: bool,
 }
 
-/// What forbids a shared cache to store the response to that request, which is the one that was sent to the
-/// origin.
+/// What forbids a shared cache to store the response to that request, which is the one that was sent to the origin.
 #[tactic(auto, using(hc_directives::proofs::KnownLemmas::seconds_are_there))]
 pub fn what_forbids(forward: &RequestHead, response: &ResponseHead) -> Forbids
     ensures each { result ≡ forbids_of forward.now response.now }
@@ -52,46 +51,6 @@ pub fn what_forbids(forward: &RequestHead, response: &ResponseHead) -> Forbids
         uninvited: !invites_storing(&known, response),
     }
 }
-
-const REQUEST_NO_STORE: Demand = Demand {
-    sections: "RFC 9111 section 5.2.1.5",
-    words: "what answers a request that says no-store MUST NOT be stored",
-};
-
-const AUTHORIZATION: Demand = Demand {
-    sections: "RFC 9111 section 3.5",
-    words: "a shared cache MUST NOT use for a later request what answers one with Authorization, but where that says that it may be shared",
-};
-
-const NO_STORE: Demand = Demand {
-    sections: "RFC 9111 section 5.2.2.5",
-    words: "what says no-store MUST NOT be stored",
-};
-
-const PRIVATE: Demand = Demand {
-    sections: "RFC 9111 section 5.2.2.7",
-    words: "a shared cache MUST NOT store what says private",
-};
-
-const MUST_UNDERSTAND: Demand = Demand {
-    sections: "RFC 9111 sections 3 and 5.2.2.3",
-    words: "what says must-understand MUST NOT be stored where its status isn't understood",
-};
-
-const STATUS: Demand = Demand {
-    sections: "RFC 9111 section 3",
-    words: "what isn't whole, or whose status isn't final, MUST NOT be stored",
-};
-
-const UNINVITED: Demand = Demand {
-    sections: "RFC 9111 section 3",
-    words: "what neither its status nor its fields invite to store MUST NOT be stored",
-};
-
-const METHOD: Demand = Demand {
-    sections: "no RFC (RFC 9111 section 3 permits this), but this auditor's stricter rule",
-    words: "a hit is made of an answer to GET alone",
-};
 
 /// The rest of what says `private` of fields alone may be stored.
 pub const PRIVATE_FIELDS: Demand = Demand {
@@ -121,61 +80,73 @@ impl Forbids {
     /// What is asked by the first that forbids, as RFCs go.
     pub fn demand(&self) -> Demand {
         if self.request_no_store {
-            REQUEST_NO_STORE
+            Demand::of(
+                "RFC 9111 section 5.2.1.5",
+                "what answers a request that says no-store MUST NOT be stored",
+            )
         } else if self.authorization {
-            AUTHORIZATION
+            Demand::of(
+                "RFC 9111 section 3.5",
+                "a shared cache MUST NOT use for a later request what answers one with Authorization, but where that says that it may be shared",
+            )
         } else if self.no_store {
-            NO_STORE
+            Demand::of(
+                "RFC 9111 section 5.2.2.5",
+                "what says no-store MUST NOT be stored",
+            )
         } else if self.private {
-            PRIVATE
-        } else if self.must_understand {
-            MUST_UNDERSTAND
+            Demand::of(
+                "RFC 9111 section 5.2.2.7",
+                "a shared cache MUST NOT store what says private",
+            )
+        } else {
+            self.demand_of_status()
+        }
+    }
+
+    // What is asked by the status, or else by what invites to store it, or by the method.
+    fn demand_of_status(&self) -> Demand {
+        if self.must_understand {
+            Demand::of(
+                "RFC 9111 sections 3 and 5.2.2.3",
+                "what says must-understand MUST NOT be stored where its status isn't understood",
+            )
         } else if self.status {
-            STATUS
+            Demand::of(
+                "RFC 9111 section 3",
+                "what isn't whole, or whose status isn't final, MUST NOT be stored",
+            )
         } else if self.uninvited {
-            UNINVITED
+            Demand::of(
+                "RFC 9111 section 3",
+                "what neither its status nor its fields invite to store MUST NOT be stored",
+            )
         } else if self.method {
-            METHOD
+            Demand::of(
+                "no RFC (RFC 9111 section 3 permits this), but this auditor's stricter rule",
+                "a hit is made of an answer to GET alone",
+            )
         } else {
             STORED_ANSWER
         }
     }
 
-    // Words for each that forbids, and the section that says so.
+    // Words for each that forbids, and the section of RFC 9111 that says so, but of the method, of which that leaves it to caches.
     fn rows(&self) -> [(bool, &'static str, &'static str); 8] {
+        let for_caches = "3 leaves other methods to the cache";
+        let no_store = "its forward says no-store";
+        let not_understood = "must-understand, and its status is not understood";
+        let authorized =
+            "its forward has Authorization, and none of public, s-maxage and must-revalidate permits to share it";
         [
-            (
-                self.method,
-                "its forward is no GET",
-                "this auditor's stricter rule: RFC 9111 section 3 leaves other methods to the cache",
-            ),
-            (
-                self.request_no_store,
-                "its forward says no-store",
-                REQUEST_NO_STORE.sections,
-            ),
-            (
-                self.status,
-                "its status must not be stored",
-                STATUS.sections,
-            ),
-            (
-                self.must_understand,
-                "must-understand, and its status is not understood",
-                "RFC 9111 section 5.2.2.3",
-            ),
-            (self.no_store, "it says no-store", NO_STORE.sections),
-            (self.private, "it says private", PRIVATE.sections),
-            (
-                self.authorization,
-                "its forward has Authorization, and none of public, s-maxage and must-revalidate permits to share it",
-                AUTHORIZATION.sections,
-            ),
-            (
-                self.uninvited,
-                "nothing invites to store it",
-                UNINVITED.sections,
-            ),
+            (self.method, "its forward is no GET", for_caches),
+            (self.request_no_store, no_store, "5.2.1.5"),
+            (self.status, "its status must not be stored", "3"),
+            (self.must_understand, not_understood, "5.2.2.3"),
+            (self.no_store, "it says no-store", "5.2.2.5"),
+            (self.private, "it says private", "5.2.2.7"),
+            (self.authorization, authorized, "3.5"),
+            (self.uninvited, "nothing invites to store it", "3"),
         ]
     }
 
@@ -183,16 +154,24 @@ impl Forbids {
     pub fn tell<T: Teller>(&self, with_sections: bool, teller: &mut T) {
         let mut is_first = true;
         for (forbids, words, section) in self.rows() {
-            if forbids {
-                teller.separator(is_first, "", " and ");
-                teller.words(words);
-                is_first = false;
+            if !forbids {
+                continue;
             }
-            if forbids && with_sections {
+            teller.separator(is_first, "", " and ");
+            teller.words(words);
+            if with_sections {
+                let is_stricter = is_first && self.method;
                 teller.words(" (");
+                teller.words(if is_stricter {
+                    "this auditor's stricter rule: "
+                } else {
+                    ""
+                });
+                teller.words("RFC 9111 section ");
                 teller.words(section);
                 teller.words(")");
             }
+            is_first = false;
         }
     }
 }
