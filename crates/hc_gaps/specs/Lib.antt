@@ -1,5 +1,6 @@
 pub mod Against
 pub mod Aging
+pub mod Demanding
 pub mod Differing
 pub mod Firsts
 pub mod Forbidding

@@ -1,8 +1,9 @@
 //! Why a stored response may not be used for a reply (RFC 9111 section 4).
 
-ghost use Rattle.std.specs.Prelude.{◌≡◌};
+ghost use Rattle.std.specs.Prelude.{◌≡◌, ◌&&◌};
 ghost use Rattle.hc_history.specs.Allowing.{allowed_lifetime};
 ghost use Rattle.hc_gaps.specs.Trusting.{is_fresh_at, is_fresh_by_age_alone};
+ghost use Rattle.hc_gaps.specs.Demanding.{lifetime_sections, says_no_cache, stale_sections, use_sections};
 ghost use Rattle.hc_gaps.specs.Forbidding.{forbids_stale, unusable_by};
 ghost use Rattle.hc_gaps.specs.Using.{lent_to, stale_by, stated_lifetime, usage_of};
 
@@ -205,7 +206,9 @@ const NO_LIFETIME: Demand = Demand {
 impl Usage {
     /// What is asked of a response that states no lifetime: no RFC forbids to use it, but where it says `no-cache`, if that isn't
     /// said of fields alone which the reply leaves out.
-    pub fn demand_of_lifetime(&self, leaves_fields_out: bool) -> Demand {
+    pub fn demand_of_lifetime(&self, leaves_fields_out: bool) -> Demand
+        ensures { result.sections.now ≡ lifetime_sections self.now leaves_fields_out }
+    {
         match self.forbidden {
             Unusable::NoCache if leaves_fields_out => NO_CACHE_FIELDS,
             Unusable::NoCache => NO_CACHE,
@@ -232,13 +235,17 @@ impl Usage {
     }
 
     // Whether it says `no-cache`, and nothing else forbids to use it.
-    fn is_forbidden_by_no_cache_alone(&self) -> bool {
+    fn is_forbidden_by_no_cache_alone(&self) -> bool
+        ensures { result ≡ (says_no_cache self.now.forbidden && is_fresh_at self.now self.now.age) }
+    {
         self.forbidden == Unusable::NoCache && self.is_fresh_at(u64::from(self.age))
     }
 
     /// What is asked of the use of a response, after an error of the origin or not. What says `no-cache` of fields alone which
     /// the reply leaves out may be used as if it didn't, as long as it is fresh.
-    pub fn demand_of_use(&self, leaves_fields_out: bool, is_after_error: bool) -> Demand {
+    pub fn demand_of_use(&self, leaves_fields_out: bool, is_after_error: bool) -> Demand
+        ensures { result.sections.now ≡ use_sections self.now leaves_fields_out is_after_error }
+    {
         if self.forbidden == Unusable::NoCache && !leaves_fields_out {
             NO_CACHE
         } else if self.is_forbidden_by_no_cache_alone() {
@@ -251,7 +258,9 @@ impl Usage {
     }
 
     // What is asked of what is stale.
-    fn demand_of_stale(&self, is_after_error: bool) -> Demand {
+    fn demand_of_stale(&self, is_after_error: bool) -> Demand
+        ensures { result.sections.now ≡ stale_sections self.now.forbids_stale is_after_error }
+    {
         match self.forbids_stale {
             Unusable::MustRevalidate => MUST_REVALIDATE,
             Unusable::ProxyRevalidate => PROXY_REVALIDATE,
