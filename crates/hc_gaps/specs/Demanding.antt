@@ -1,9 +1,14 @@
 -- Which section of an RFC asks what a reply doesn't keep, and where none does.
-use Rattle.std.specs.Prelude.{ℕ, Bool, ◌&&◌, true, false, not, List, codes, if◌then◌else◌}
+use Rattle.std.specs.Prelude.{ℕ, Bool, ◌&&◌, true, false, not, nat_le, nat_lt, List, Option, Some, None, codes, if◌then◌else◌}
+use Rattle.std.specs.Int.{abs_diff}
+use Rattle.hc_gaps.specs.declared.aging.AgeGap.{AgeGap}
+use Rattle.hc_gaps.specs.declared.aging.AgeTold.{AgeTold}
+use Rattle.hc_gaps.specs.declared.aging.AgeTold.TheVariants.{Missing, Several, Unreadable, Seconds}
+use Rattle.hc_gaps.specs.declared.storing.Forbids.{Forbids}
 use Rattle.hc_gaps.specs.declared.usage.Unusable.{Unusable}
 use Rattle.hc_gaps.specs.declared.usage.Unusable.TheVariants.{NoCache, MustRevalidate, ProxyRevalidate, SMaxage, NothingPermits}
 use Rattle.hc_gaps.specs.declared.usage.Usage.{Usage}
-use Rattle.hc_gaps.specs.Trusting.{is_fresh_at, is_fresh_by_age_alone}
+use Rattle.hc_gaps.specs.Trusting.{age_by_age_alone, is_fresh_at, is_fresh_by_age_alone}
 
 -- ---- where no RFC asks it, the section that permits what was done
 
@@ -18,6 +23,28 @@ age_alone = codes "no RFC (RFC 9111 section 4.2.3 lets a cache count by Age alon
 
 abbrev pub error_as_none : List ℕ
 error_as_none = codes "no RFC (RFC 9111 section 4.3.3 lets a cache take an error for no answer, and give what is stale), but this auditor's stricter rule"
+
+abbrev pub no_age_after_304 : List ℕ
+no_age_after_304 = codes "no RFC (RFC 9111 section 4 asks for an Age where what is stored is used without validation), but this auditor's stricter rule"
+
+abbrev pub other_methods : List ℕ
+other_methods = codes "no RFC (RFC 9111 section 3 permits this), but this auditor's stricter rule"
+
+-- ---- of what may not be stored, by the first thing that forbids it (RFC 9111 section 3)
+
+abbrev pub status_sections : Forbids → List ℕ
+status_sections forbids =
+    if forbids.must_understand then codes "RFC 9111 sections 3 and 5.2.2.3" else
+    (if forbids.status then codes "RFC 9111 section 3" else
+    (if forbids.uninvited then codes "RFC 9111 section 3" else
+    (if forbids.method then other_methods else codes "RFC 9111 section 3")))
+
+abbrev pub storing_sections : Forbids → List ℕ
+storing_sections forbids =
+    if forbids.request_no_store then codes "RFC 9111 section 5.2.1.5" else
+    (if forbids.authorization then codes "RFC 9111 section 3.5" else
+    (if forbids.no_store then codes "RFC 9111 section 5.2.2.5" else
+    (if forbids.private then codes "RFC 9111 section 5.2.2.7" else status_sections forbids)))
 
 -- ---- of what may not be used (RFC 9111 sections 4.2.2, 4.2.4 and 5.2.2)
 
@@ -48,3 +75,28 @@ abbrev pub lifetime_sections : Usage → Bool → List ℕ
 lifetime_sections usage leaves_out =
     if not (says_no_cache usage.forbidden) then heuristics else
     (if leaves_out then others_of_no_cache else codes "RFC 9111 section 5.2.2.4")
+
+-- ---- of the Age (RFC 9111 sections 4, 4.2.3 and 5.1)
+
+abbrev pub is_about : Option ℕ → ℕ → ℕ → Bool
+is_about None told slack = false
+is_about (Some counted) told slack = nat_le (abs_diff counted told) slack
+
+abbrev pub is_since : Option ℕ → ℕ → Bool
+is_since None since = false
+is_since (Some validated) since = nat_lt since validated
+
+abbrev pub counted_sections : Option ℕ → List ℕ
+counted_sections None = codes "RFC 9111 sections 4 and 4.2.3"
+counted_sections (Some validated) = codes "RFC 9111 sections 4.2 and 5.1"
+
+abbrev pub told_sections : AgeTold → AgeGap → ℕ → Option ℕ → List ℕ
+told_sections Missing gap since validated = if is_since validated since then no_age_after_304 else codes "RFC 9111 section 4"
+told_sections Several gap since validated = codes "RFC 9111 section 5.1"
+told_sections Unreadable gap since validated = codes "RFC 9111 section 5.1"
+told_sections (Seconds told) gap since validated =
+    if is_about (age_by_age_alone gap.parts) told gap.slack then age_alone else counted_sections validated
+
+-- by what the reply tells, and by the 304 that validated the response last, which may have come after the request
+abbrev pub age_sections : AgeGap → ℕ → Option ℕ → List ℕ
+age_sections gap since validated = told_sections gap.told gap since validated

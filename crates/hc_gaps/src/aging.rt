@@ -4,6 +4,7 @@ ghost use Rattle.std.specs.Prelude.{◌≡◌, [], ◌∷◌, codes};
 ghost use Rattle.hc_fields.specs.Values.{values_of};
 ghost use Rattle.hc_fresh.specs.Ages.{apparent_age, response_delay};
 ghost use Rattle.hc_gaps.specs.Aging.{IsAgeGap, IsAgeTold, age_off, parts_of, ttl_due, ttl_gap_of, ttl_off};
+ghost use Rattle.hc_gaps.specs.Demanding.{age_sections, is_about};
 ghost use Rattle.hc_gaps.specs.Trusting.{age_by_age_alone};
 
 use crate::demand::Demand;
@@ -234,7 +235,9 @@ impl AgeGap {
     }
 
     // Whether those seconds are what is counted by the response's Age alone.
-    fn is_by_age_alone(&self, told: u32) -> bool {
+    fn is_by_age_alone(&self, told: u32) -> bool
+        ensures { result ≡ is_about (age_by_age_alone self.now.parts) told self.now.slack }
+    {
         match self.parts.by_age_alone() {
             Some(counted) => counted.abs_diff(u64::from(told)) <= u64::from(self.slack),
             None => false,
@@ -243,7 +246,9 @@ impl AgeGap {
 
     /// What is asked of the Age of a reply of that status, whose response a 304 has validated since that position or before it,
     /// if one has.
-    pub fn demand(&self, since: u64, validated_at: Option<u64>, status: StatusCode) -> Demand {
+    pub fn demand(&self, since: u64, validated_at: Option<u64>, status: StatusCode) -> Demand
+        ensures { result.sections.now ≡ age_sections self.now since validated_at }
+    {
         match (self.told, validated_at) {
             (AgeTold::Missing, Some(validated)) if since < validated => Demand::of(
                 "no RFC (RFC 9111 section 4 asks for an Age where what is stored is used without validation), but this auditor's stricter rule",

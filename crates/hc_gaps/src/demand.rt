@@ -1,5 +1,7 @@
 //! What is asked of a reply, and where.
 
+ghost use Rattle.std.specs.Prelude.{◌≡◌};
+
 use hc_history::Reason;
 
 /// What is asked of a reply, and where: by a MUST or a SHOULD of an RFC, by what an RFC says a thing means, or by a stricter
@@ -26,7 +28,9 @@ pub const NO_HIT: Demand = Demand {
 
 impl Demand {
     /// That sentence, of those sections.
-    pub(crate) fn of(sections: &'static str, words: &'static str) -> Self {
+    pub(crate) fn of(sections: &'static str, words: &'static str) -> Self
+        ensures { result.sections.now ≡ sections.now }
+    {
         Demand { sections, words }
     }
 

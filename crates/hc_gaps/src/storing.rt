@@ -2,6 +2,7 @@
 
 ghost use Rattle.std.specs.Prelude.{◌≡◌};
 ghost use Rattle.hc_rules.specs.Storing.{may_store};
+ghost use Rattle.hc_gaps.specs.Demanding.{status_sections, storing_sections};
 ghost use Rattle.hc_gaps.specs.Forbidding.{forbids_nothing, forbids_of};
 
 use crate::demand::{Demand, STORED_ANSWER};
@@ -78,7 +79,9 @@ impl Forbids {
     }
 
     /// What is asked by the first that forbids, as RFCs go.
-    pub fn demand(&self) -> Demand {
+    pub fn demand(&self) -> Demand
+        ensures { result.sections.now ≡ storing_sections self.now }
+    {
         if self.request_no_store {
             Demand::of(
                 "RFC 9111 section 5.2.1.5",
@@ -105,7 +108,9 @@ impl Forbids {
     }
 
     // What is asked by the status, or else by what invites to store it, or by the method.
-    fn demand_of_status(&self) -> Demand {
+    fn demand_of_status(&self) -> Demand
+        ensures { result.sections.now ≡ status_sections self.now }
+    {
         if self.must_understand {
             Demand::of(
                 "RFC 9111 sections 3 and 5.2.2.3",
