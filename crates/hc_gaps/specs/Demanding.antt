@@ -1,9 +1,11 @@
 -- Which section of an RFC asks what a reply doesn't keep, and where none does.
-use Rattle.std.specs.Prelude.{ℕ, Bool, ◌&&◌, true, false, not, nat_le, nat_lt, List, Option, Some, None, codes, if◌then◌else◌}
+use Rattle.std.specs.Prelude.{ℕ, Bool, ◌&&◌, true, false, not, ◌==◌, nat_le, nat_lt, List, Option, Some, None, codes, if◌then◌else◌}
 use Rattle.std.specs.Int.{abs_diff}
+use Rattle.std.specs.List.{list_all, list_any}
 use Rattle.hc_gaps.specs.declared.aging.AgeGap.{AgeGap}
 use Rattle.hc_gaps.specs.declared.aging.AgeTold.{AgeTold}
 use Rattle.hc_gaps.specs.declared.aging.AgeTold.TheVariants.{Missing, Several, Unreadable, Seconds}
+use Rattle.hc_gaps.specs.declared.selecting.Selection.{Selection}
 use Rattle.hc_gaps.specs.declared.storing.Forbids.{Forbids}
 use Rattle.hc_gaps.specs.declared.usage.Unusable.{Unusable}
 use Rattle.hc_gaps.specs.declared.usage.Unusable.TheVariants.{NoCache, MustRevalidate, ProxyRevalidate, SMaxage, NothingPermits}
@@ -29,6 +31,28 @@ no_age_after_304 = codes "no RFC (RFC 9111 section 4 asks for an Age where what 
 
 abbrev pub other_methods : List ℕ
 other_methods = codes "no RFC (RFC 9111 section 3 permits this), but this auditor's stricter rule"
+
+abbrev pub star_after_304 : List ℕ
+star_after_304 = codes "no RFC (RFC 9111 sections 4.1 and 4.3 leave this open), but this auditor's stricter rule"
+
+abbrev pub normalizing : List ℕ
+normalizing = codes "no RFC (RFC 9111 section 4.1 lets a cache normalize space, case and order where they mean nothing in a field), but this auditor's stricter rule"
+
+-- ---- of what Vary doesn't select (RFC 9111 section 4.1)
+
+-- it has a member that names no field, as *
+abbrev pub has_star : Selection → Bool
+has_star selection = list_any (λ unmet. not unmet.is_name) selection.unmet.items
+
+-- both requests mean the same by all members that are named
+abbrev pub are_forms : Selection → Bool
+are_forms selection = list_all (λ unmet. unmet.is_form) selection.unmet.items
+
+-- a 304 came, or none, that Vary alone kept from validating it
+abbrev pub selecting_sections : Selection → Bool → List ℕ
+selecting_sections selection after_304 =
+    if has_star selection then (if after_304 then star_after_304 else codes "RFC 9111 section 4.1") else
+    (if (selection.more == 0) && are_forms selection then normalizing else codes "RFC 9111 section 4.1")
 
 -- ---- of what may not be stored, by the first thing that forbids it (RFC 9111 section 3)
 

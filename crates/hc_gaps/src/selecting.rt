@@ -1,6 +1,7 @@
 //! In what a request differs from the one that a stored response answers (RFC 9111 section 4.1).
 
 ghost use Rattle.std.specs.Prelude.{◌≡◌, ◌++◌, List, ℕ, [], ◌∷◌, filter, IfOk, OnOk};
+ghost use Rattle.hc_gaps.specs.Demanding.{are_forms, has_star, selecting_sections};
 ghost use Rattle.hc_gaps.specs.Selecting.{AreNamed, AreUnmet, is_unmet};
 
 use crate::demand::Demand;
@@ -74,15 +75,25 @@ pub fn unmet_members(
 }
 
 impl Selection {
+    // Whether Vary names what selects no request.
+    fn has_star(&self) -> bool
+        ensures { result ≡ has_star self.now }
+    {
+        self.unmet.iter().any(|unmet| !unmet.is_name)
+    }
+
+    // Whether both requests mean the same by all that is named.
+    fn are_forms(&self) -> bool
+        ensures { result ≡ are_forms self.now }
+    {
+        self.unmet.iter().all(|unmet| unmet.is_form)
+    }
+
     /// What is asked of the reply: where Vary is `*`, by whether a 304 came.
-    pub fn demand(&self, is_after_304: bool) -> Demand {
-        let mut has_star = false;
-        let mut is_form = self.more == 0;
-        for unmet in self.unmet.iter() {
-            has_star = has_star || !unmet.is_name;
-            is_form = is_form && unmet.is_form;
-        }
-        match (has_star, is_after_304) {
+    pub fn demand(&self, is_after_304: bool) -> Demand
+        ensures { result.sections.now ≡ selecting_sections self.now is_after_304 }
+    {
+        match (self.has_star(), is_after_304) {
             (true, true) => Demand::of(
                 "no RFC (RFC 9111 sections 4.1 and 4.3 leave this open), but this auditor's stricter rule",
                 "Vary \"*\" selects no request, also none that a 304 answers",
@@ -91,7 +102,7 @@ impl Selection {
                 "RFC 9111 section 4.1",
                 "Vary \"*\" selects no request: what has it MUST NOT be used before it is validated",
             ),
-            (false, _) if is_form => Demand::of(
+            (false, _) if self.more == 0 && self.are_forms() => Demand::of(
                 "no RFC (RFC 9111 section 4.1 lets a cache normalize space, case and order where they mean nothing in a field), but this auditor's stricter rule",
                 "a stored response answers no request that differs from its own in what its Vary names, but for --normalized",
             ),
