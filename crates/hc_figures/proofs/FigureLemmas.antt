@@ -1,8 +1,7 @@
 -- The figures among the members of a report.
-use Rattle.std.proofs.Common.{◌≡◌, ◌≤◌, ◌∙◌, ℕ, Bool, true, false, List, [], ◌∷◌, Option, None, Some, Result, Ok, Err, IfOk, OnOk, ap, codes, cond, map, option_map, refl, sym, true≢false, arith}
+use Rattle.std.proofs.Common.{◌≡◌, ◌≤◌, ◌∙◌, ℕ, Bool, true, false, List, [], ◌∷◌, Option, None, Some, ap, codes, cond, map, option_map, refl, sym, true≢false, arith}
 use Rattle.serde_json.specs.Data.{Data, Members, depth, items_depth, members_depth, null, put, string}
-use Rattle.serde_json.specs.View.{items_of, view}
-use Rattle.serde_json.specs.declared.value.Value.{Value}
+use Rattle.serde_json.specs.View.{items_of}
 use Rattle.serde_json.proofs.Views.{get_member-put_other}
 use Rattle.hc_json.specs.Entries.{object_with, some_data, with_all}
 use Rattle.hc_json.proofs.EntryLemmas.{all_depth, all_there, put_depth}
@@ -90,14 +89,3 @@ left_figures replies wrongs ending counts old new have left =
       );
       nest = left.nest have.nest;
     }
-
--- a value that was made is put in
-pub made_left : {E : Type 0} (name : List ℕ) (made : Result Value E) (old new : Members) → is_figure name ≡ false → IfOk made (λ v. depth (view v) ≤ deepest)
-    → ((d : Data) → IfOk made (λ v. view v ≡ d) → new ≡ put name d old) → LeavesFigures old new
-made_left name (Ok v) old new other few is = leaves name (view v) old new other few (is (view v) refl)
-made_left name (Err e) old new other few is = leaves name null old new other (omega arith) (is null tt)
-
-pub made_leaves : {E F : Type 0} (name : List ℕ) (made : Result Value E) (result : Result (Unit {0}) F) (old new : Members) → is_figure name ≡ false
-    → IfOk made (λ v. depth (view v) ≤ deepest) → ((d : Data) → IfOk made (λ v. view v ≡ d) → OnOk result (new ≡ put name d old)) → OnOk result (LeavesFigures old new)
-made_leaves name made (Ok u) old new other few is = made_left name made old new other few is
-made_leaves name made (Err e) old new other few is = tt

@@ -1,8 +1,8 @@
 -- A list of the first so many.
-use Rattle.std.proofs.Common.{◌≡◌, ℕ, ◌<◌, ◌≤◌, ◌+◌, ◌-◌, ◌^◌, List, [], ◌∷◌, ◌++◌, Some, length, get_or, map, min, take, refl, sym, ◌∙◌, ap, subst, arith, length-append}
+use Rattle.std.proofs.Common.{◌≡◌, ℕ, ◌<◌, ◌≤◌, ◌+◌, ◌-◌, ◌^◌, List, [], ◌∷◌, ◌++◌, Some, length, min, take, refl, sym, ◌∙◌, ap, subst, arith, length-append}
 use Rattle.std.specs.Option.{option_or}
 use Rattle.std.specs.List.{slice_get}
-use Rattle.std.proofs.lemmas.List.{append_assoc, map-append, take_all, take_more, take-append-le, length-take}
+use Rattle.std.proofs.lemmas.List.{take_all, take-append-le, length-take}
 use Rattle.hc_history.specs.declared.wrong.WrongReply.{WrongReply}
 use Rattle.hc_figures.specs.Listed.{AreListed, most_listed}
 use Rattle.hc_figures.specs.Wrongs.{wrongs_of}
@@ -26,16 +26,6 @@ pub no_more : {A : Type 0} (n : ℕ) (kept xs : List A) (x : A) → kept ≡ tak
 no_more n kept xs x same full =
     let enough : n ≤ min n (length xs) = subst (λ m. n ≤ m) (ap length same ∙ length-take n xs) full in
     same ∙ sym (take-append-le n xs (x ∷ []) (omega (arith, enough)))
-
--- what is made of the first so many is pushed, one after another
-pub pushed : {X Y : Type 0} (f : X → Y) (xs : List X) (i : ℕ) (d : X) (before old new : List Y) → i < length xs
-    → new ≡ old ++ f (get_or xs i d) ∷ [] → old ≡ before ++ map f (take i xs) → new ≡ before ++ map f (take (i + 1) xs)
-pushed {X} {Y} f xs i d before old new within is was =
-    let x = get_or xs i d in
-    is ∙ ap (λ (made : List Y). made ++ f x ∷ []) was
-    ∙ append_assoc before (map f (take i xs)) (f x ∷ [])
-    ∙ ap (λ (made : List Y). before ++ made) (sym (map-append f (take i xs) (x ∷ [])))
-    ∙ ap (λ (ys : List X). before ++ map f ys) (sym (take_more xs i d within))
 
 -- ---- one more wrong reply
 
