@@ -12,10 +12,8 @@ fn push_date_time(at: DateTime, out: &mut String) -> Result<(), AllocError>
 {
     let (year, month, day) = (at.date.year, at.date.month, at.date.day);
     let (hour, minute, second) = (at.time.hour, at.time.minute, at.time.second);
-    write!(
-        out,
-        "{year:04}-{month:02}-{day:02} {hour:02}:{minute:02}:{second:02}"
-    )
+    write!(out, "{year:04}-{month:02}-{day:02}")?;
+    write!(out, " {hour:02}:{minute:02}:{second:02}")
 }
 
 /// Puts a moment, in seconds since 1970, at the end, as `2026-11-22 05:57:43` in UTC. One behind the year 9999 is
