@@ -1,4 +1,4 @@
-use Rattle.std.proofs.Common.{◌∙◌, ◌||◌, ap, sym, rules}
+use Rattle.std.proofs.Common.{◌∙◌, ◌||◌, rules}
 use Rattle.std.specs.Prelude.{codes, max}
 use Rattle.hc_fresh.specs.Lifetimes.{explicit, says}
 use Rattle.hc_rules.specs.Storing.{is_heuristically_cacheable}
