@@ -76,25 +76,32 @@ fn tight_of(alloc: Global, name: &[u8], fields: &Fields) -> Result<Option<Octets
     Ok(Some(Octets::from_vec(tight)))
 }
 
-// How often a thing of a list stands in it, in either case.
-fn count_in(list: &Octets, wanted: &[u8]) -> usize {
-    let mut count: usize = 0;
-    for member in list_members(list.as_slice()) {
-        if member.eq_ignore_ascii_case(wanted) {
-            count = count.saturating_add(1);
-        }
+// The things of a list in rising order, each as often as it stands there.
+fn in_order<'a>(alloc: Global, list: &'a [u8]) -> Result<Vec<&'a [u8]>, AllocError> {
+    let mut members = Vec::new(alloc);
+    for member in list_members(list) {
+        members.push(member)?;
     }
-    count
+    members.sort_unstable();
+    Ok(members)
 }
 
-// Whether each thing of the one list stands in both equally often, in either case.
-fn has_all(one: &Octets, other: &Octets) -> bool {
-    for member in list_members(one.as_slice()) {
-        if count_in(one, member) != count_in(other, member) {
-            return false;
-        }
-    }
-    true
+// Whether the same things stand in both lists, each equally often.
+fn have_the_same(alloc: Global, one: &[u8], other: &[u8]) -> Result<bool, AllocError> {
+    let one = in_order(alloc, one)?;
+    let other = in_order(alloc, other)?;
+    Ok(one.as_slice() == other.as_slice())
+}
+
+// Whether the same things stand in both lists, each equally often, with letters of either case.
+fn have_the_same_in_any_case(
+    alloc: Global,
+    one: &Octets,
+    other: &Octets,
+) -> Result<bool, AllocError> {
+    let one = one.as_slice().to_ascii_lowercase(alloc)?;
+    let other = other.as_slice().to_ascii_lowercase(alloc)?;
+    have_the_same(alloc, one.as_slice(), other.as_slice())
 }
 
 /// Whether both have the field, and mean the same by it though it may be written in other ways: with blanks beside commas and
@@ -113,7 +120,10 @@ pub fn means_the_same(
         return Ok(false);
     };
     let is_preference = is_selector && is_among(&PREFERENCES, name.as_slice());
-    Ok(one == other || (is_preference && has_all(one, other) && has_all(other, one)))
+    if one == other || !is_preference {
+        return Ok(one == other);
+    }
+    have_the_same_in_any_case(alloc, one, other)
 }
 
 /// Of which fields alone a response says something by a directive.
