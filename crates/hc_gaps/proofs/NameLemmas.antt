@@ -3,7 +3,7 @@ use Rattle.std.proofs.Common.{◌≡◌, ◌==◌, ◌||◌, ◌<◌, ◌≤◌,
 use Rattle.std.specs.List.{list_any}
 use Rattle.std.specs.Prelude.{All, filter}
 use Rattle.std.specs.Str.{bytes_eq}
-use Rattle.std.proofs.lemmas.List.{drop_more, map-append, length-map}
+use Rattle.std.proofs.lemmas.List.{append-nil, drop_more, map-append, length-map}
 use Rattle.hc_fields.specs.declared.fields.Field.{Field}
 use Rattle.hc_head.specs.Statuses.{not_modified}
 use Rattle.hc_rules.specs.Conditions.{repeated_names}
@@ -103,6 +103,13 @@ one_over claim state names name found new full items more are =
       each = subst (λ (gaps : List FieldGap). All (IsGap claim state) gaps) (sym items) are.each;
       first = record { first = ap listed items ∙ first.first; others = more ∙ first.others };
     }
+
+-- one that doesn't differ is neither
+pub passed_over : (claim : Claim) (state : Stored) (names : List (List ℕ)) (name : List ℕ) (found : Differences) → differs claim state name ≡ false
+    → AreListed claim state names found → AreListed claim state (names ++ filter (differs claim state) (name ∷ [])) found
+passed_over claim state names name found same are =
+    subst (λ (b : Bool). AreListed claim state (names ++ cond b (name ∷ []) []) found) (sym same)
+    (subst (λ (all : List (List ℕ)). AreListed claim state all found) (sym (append-nil names)) are)
 
 -- one that differs is listed, or counted
 pub taken : (claim : Claim) (state : Stored) (names : List (List ℕ)) (name : List ℕ) (found new : Differences) (gap : FieldGap)

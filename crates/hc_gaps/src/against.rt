@@ -69,22 +69,20 @@ impl Telling {
         }
     }
 
-    // What it tells.
-    fn told<'a>(&self, forwarded: &'a Fields, received: &'a Fields) -> FieldOf<'a> {
-        match self {
-            Telling::Tag => FieldOf::new(b"etag", received),
-            Telling::Modified => FieldOf::new(b"last-modified", received),
-            Telling::AskedTag => FieldOf::new(b"if-none-match", forwarded),
-            Telling::AskedModified => FieldOf::new(b"if-modified-since", forwarded),
-        }
-    }
-
-    // What the response of those fields has for it.
-    fn due<'a>(&self, stored: &'a Fields) -> FieldOf<'a> {
-        match self {
-            Telling::Tag | Telling::AskedTag => FieldOf::new(b"etag", stored),
-            Telling::Modified | Telling::AskedModified => FieldOf::new(b"last-modified", stored),
-        }
+    // What a 304 tells by it, and what the response of those fields has for it.
+    fn sides<'a>(
+        &self,
+        stored: &'a Fields,
+        forwarded: &'a Fields,
+        received: &'a Fields,
+    ) -> (FieldOf<'a>, FieldOf<'a>) {
+        let (name, _, validator) = self.names();
+        let told = match self {
+            Telling::Tag | Telling::Modified => received,
+            Telling::AskedTag | Telling::AskedModified => forwarded,
+        };
+        let due = FieldOf::new(validator.as_bytes(), stored);
+        (FieldOf::new(name.as_bytes(), told), due)
     }
 }
 
@@ -126,27 +124,18 @@ fn without_weakness(value: &[u8]) -> &[u8] {
     value.strip_prefix(b"W/").unwrap_or(value)
 }
 
-impl Telling {
-    // Whether what is told is what is due: a tag of the 304's own may be a weak one where the other isn't, or the reverse.
-    fn is_same(&self, told: &[u8], due: &[u8]) -> bool {
-        match self {
-            Telling::Tag => without_weakness(told) == without_weakness(due),
-            Telling::Modified | Telling::AskedTag | Telling::AskedModified => told == due,
-        }
-    }
-}
-
 /// Whether what a 304 tells by its validator is what the response has, but for that of both tags one may be a weak one. Of the
 /// condition of its forward nothing else will do: a 304 without a validator is about what was asked of.
 pub fn agree(state: &Stored, forward: &RequestHead, response: &ResponseHead) -> bool {
     let telling = Telling::read(&forward.fields, &response.fields);
-    let (told, due) = (
-        telling.told(&forward.fields, &response.fields),
-        telling.due(&state.fields),
-    );
-    match (told.fields.only(told.name), due.fields.only(due.name)) {
-        (Some(told), Some(due)) => telling.is_same(trimmed(told), trimmed(due)),
-        _ => false,
+    let (told, due) = telling.sides(&state.fields, &forward.fields, &response.fields);
+    let (Some(told), Some(due)) = (told.fields.only(told.name), due.fields.only(due.name)) else {
+        return false;
+    };
+    let (told, due) = (trimmed(told), trimmed(due));
+    match telling {
+        Telling::Tag => without_weakness(told) == without_weakness(due),
+        _ => told == due,
     }
 }
 
@@ -201,12 +190,13 @@ impl Against {
             return teller.words(self.named().1);
         };
         let (name, of, validator) = telling.names();
+        let (told, due) = telling.sides(stored, forwarded, received);
         teller.words(name);
-        teller.value("told", " ", telling.told(forwarded, received));
+        teller.value("told", " ", told);
         teller.words(of);
         teller.words(", the stored response's ");
         teller.words(validator);
-        teller.value("due", " ", telling.due(stored));
+        teller.value("due", " ", due);
     }
 }
 

@@ -61,7 +61,7 @@ pub struct TtlGap {
     pub slack: u32,
 }
 
-/// What an age is counted from, as far as it is known.
+/// What an age and a lifetime are counted from, as far as it is known.
 #[derive(Clone, Copy)]
 pub struct AgeOrigin {
     /// The 304 that freshened the response last.
@@ -70,6 +70,8 @@ pub struct AgeOrigin {
     pub sent: Option<RecordName>,
     /// The response, where it came with an Age, and a 304 freshened it.
     pub aged: Option<Aged>,
+    /// Whether Expires alone says the lifetime.
+    pub is_by_expires: bool,
 }
 
 /// A response that came with an Age.
@@ -140,14 +142,11 @@ pub const TTL: Demand = Demand {
     words: "ttl tells for how many seconds more the response is fresh",
 };
 
-/// Tells by how many seconds something may be off, and by which option, if it may be.
-pub(crate) fn say_slack<T: Teller>(slack: u32, option: &str, teller: &mut T) {
-    if slack == 0 {
-        return;
+/// Tells by how many seconds something may be off, if it may be, and after them by which option.
+pub(crate) fn say_slack<T: Teller>(slack: u32, by_option: &str, teller: &mut T) {
+    if slack != 0 {
+        teller.count(" (give or take ", u64::from(slack), by_option);
     }
-    teller.count(" (give or take ", u64::from(slack), " by ");
-    teller.words(option);
-    teller.words(")");
 }
 
 /// The member of Cache-Status by which a recorder says that it wrote the Age.
@@ -190,22 +189,8 @@ impl AgeParts {
         Some(corrected.saturating_add(self.resident))
     }
 
-    // Tells the age that the response had when it came: by its Date, or by its Age and the time that it took.
-    fn say_first<T: Teller>(&self, sent: Option<RecordName>, teller: &mut T) {
-        if self.by_age_alone().is_some() {
-            return teller.count("", self.apparent(), " (Date)");
-        }
-        if self.times.age_value != 0 {
-            teller.count("", u64::from(self.times.age_value), " (Age) + ");
-        }
-        teller.count("", self.delay(), " (on its way");
-        if let Some(sent) = sent {
-            teller.record(" since ", sent);
-        }
-        teller.words(")");
-    }
-
-    /// Tells of what an age is the sum, after what stands for the age.
+    /// Tells of what an age is the sum, after what stands for the age: the age that the response had when it came, by its Date or
+    /// by its Age and the time that it took, and the seconds since.
     pub(crate) fn tell<T: Teller>(&self, origin: AgeOrigin, teller: &mut T) {
         let times = self.times;
         teller.fact("request_time", times.request_time);
@@ -214,7 +199,18 @@ impl AgeParts {
         teller.fact("age_value", u64::from(times.age_value));
         teller.fact("resident_time", self.resident);
         teller.words(" = ");
-        self.say_first(origin.sent, teller);
+        if self.by_age_alone().is_some() {
+            teller.count("", self.apparent(), " (Date)");
+        } else {
+            if times.age_value != 0 {
+                teller.count("", u64::from(times.age_value), " (Age) + ");
+            }
+            teller.count("", self.delay(), " (on its way");
+            if let Some(sent) = origin.sent {
+                teller.record(" since ", sent);
+            }
+            teller.words(")");
+        }
         teller.count(" + ", self.resident, " (stored");
         if let Some(validator) = origin.validator {
             teller.record(" since the 304 ", validator);
@@ -283,7 +279,13 @@ impl AgeGap {
     // Tells the seconds that the reply of those fields has, whether the recorder wrote them, and what would be due counted from
     // the arrival of the response alone, if that is something else.
     fn tell_seconds<T: Teller>(&self, told: u32, reply: &Fields, teller: &mut T) {
-        teller.number("told", "", u64::from(told), "");
+        let by_option = if self.is_own_slack {
+            " by --age-slack)"
+        } else {
+            " by --slack)"
+        };
+        say_slack(self.slack, by_option, teller);
+        teller.number("told", ", the reply has ", u64::from(told), "");
         if is_by_recorder(reply) {
             teller.words(", which the recorder wrote, by the reply's Date");
             teller.flag("by_recorder", true);
@@ -312,24 +314,17 @@ impl AgeGap {
         teller.number("due", "age: due ", u64::from(self.due), "");
         teller.fact("slack", u64::from(self.slack));
         self.parts.tell(origin, teller);
-        let is_number = matches!(self.told, AgeTold::Seconds(_));
-        if is_number {
-            let option = if self.is_own_slack {
-                "--age-slack"
-            } else {
-                "--slack"
-            };
-            say_slack(self.slack, option, teller);
+        if let AgeTold::Seconds(told) = self.told {
+            self.tell_seconds(told, reply, teller);
+        } else {
+            teller.some("told", None);
+            teller.words(", the reply has ");
         }
-        teller.words(", the reply has ");
         match self.told {
-            AgeTold::Seconds(told) => self.tell_seconds(told, reply, teller),
+            AgeTold::Seconds(_) => {}
             AgeTold::Missing => teller.words("none"),
             AgeTold::Several => teller.words("several lines"),
             AgeTold::Unreadable => teller.said_value(FieldOf::new(b"age", reply)),
-        }
-        if !is_number {
-            teller.some("told", None);
         }
         if let Some(aged) = origin.aged {
             self.say_former(aged, teller);
@@ -359,7 +354,7 @@ impl TtlGap {
         teller.number("lifetime", " = ", u64::from(self.lifetime), " (lifetime)");
         teller.number("age", " - ", u64::from(self.age), " (age)");
         teller.fact("slack", u64::from(self.slack));
-        say_slack(self.slack, "--slack", teller);
+        say_slack(self.slack, " by --slack)", teller);
         teller.words(", the reply has ");
         match self.told {
             Some(told) => teller.signed("told", "", told),

@@ -41,10 +41,8 @@ enum Content {
     // A 416, and a part, in an audit that allows ranges.
     Unsatisfied,
     Part,
-    // A 412 by a condition that origins alone evaluate (RFC 9111 section 4.3.2).
-    Evaluated(Condition),
-    // A 412 by another one.
-    Failed(Condition),
+    // A 412 that this condition explains, if one does.
+    Failed(Option<Condition>),
     Other,
 }
 
@@ -103,68 +101,58 @@ impl Condition {
     // The first of those that a request has.
     fn first_asked(conditions: &[Condition], claim: &ReplyClaim<'_>) -> Option<Condition> {
         for condition in conditions {
-            if claim
-                .request
-                .fields
-                .contains(condition.names().0.as_bytes())
-            {
+            let (asked, _) = condition.names();
+            if claim.request.fields.contains(asked.as_bytes()) {
                 return Some(*condition);
             }
         }
         None
     }
 
+    // Whether origins alone evaluate it (RFC 9111 section 4.3.2).
+    fn is_for_origins(self) -> bool {
+        matches!(self, Condition::Match | Condition::UnmodifiedSince)
+    }
+
     // Tells the condition that the request presents, and after a text what the response has for it.
-    fn tell<T: Teller>(self, after: &str, (claim, state): Pair<'_>, teller: &mut T) {
+    fn tell<T: Teller>(self, between: &str, (claim, state): Pair<'_>, teller: &mut T) {
         let (asked, validator) = self.names();
         teller.words(asked);
         let field = FieldOf::new(asked.as_bytes(), &claim.request.fields);
         teller.value(asked, " ", field);
-        teller.words(after);
-        teller.words(" the stored response's ");
+        teller.words(between);
         teller.words(validator);
         let field = FieldOf::new(validator.as_bytes(), &state.fields);
         teller.value(validator, " ", field);
     }
 }
 
-impl Content {
-    fn read(claim: &ReplyClaim<'_>, state: &Stored) -> Self {
-        let reply = claim.reply;
-        let has_ranges = claim.settings.allowed.ranges;
-        match reply.head.status {
-            StatusCode::NOT_MODIFIED if !reply.body.is_empty() => Content::Other,
-            StatusCode::NOT_MODIFIED if state.status != StatusCode::OK => Content::OfNoSuccess,
-            StatusCode::NOT_MODIFIED => {
-                let conditions = [Condition::NoneMatch, Condition::ModifiedSince];
-                Content::Unearned(Condition::first_asked(&conditions, claim))
-            }
-            StatusCode::RANGE_NOT_SATISFIABLE if has_ranges => Content::Unsatisfied,
-            StatusCode::PARTIAL_CONTENT if has_ranges => Content::Part,
-            StatusCode::PRECONDITION_FAILED => {
-                let conditions = [
-                    Condition::Match,
-                    Condition::UnmodifiedSince,
-                    Condition::NoneMatch,
-                ];
-                match Condition::first_asked(&conditions, claim) {
-                    Some(Condition::NoneMatch) => Content::Failed(Condition::NoneMatch),
-                    Some(condition) => Content::Evaluated(condition),
-                    None => Content::Other,
-                }
-            }
-            _ => Content::Other,
-        }
-    }
-}
+/// The conditions by which a reply may be a 304, and by which it may be a 412, in the order in which they are evaluated.
+const OF_304: [Condition; 2] = [Condition::NoneMatch, Condition::ModifiedSince];
+
+const OF_412: [Condition; 3] = [
+    Condition::Match,
+    Condition::UnmodifiedSince,
+    Condition::NoneMatch,
+];
 
 /// In what the status or the body of the reply differs from the response's.
 pub fn content_gap(claim: &ReplyClaim<'_>, state: &Stored) -> ContentGap {
-    let body = claim.reply.body.as_slice();
+    let (reply, has_ranges) = (claim.reply, claim.settings.allowed.ranges);
+    let body = reply.body.as_slice();
+    let content = match reply.head.status {
+        StatusCode::NOT_MODIFIED if !body.is_empty() => Content::Other,
+        StatusCode::NOT_MODIFIED if state.status != StatusCode::OK => Content::OfNoSuccess,
+        StatusCode::NOT_MODIFIED => Content::Unearned(Condition::first_asked(&OF_304, claim)),
+        StatusCode::RANGE_NOT_SATISFIABLE if has_ranges => Content::Unsatisfied,
+        StatusCode::PARTIAL_CONTENT if has_ranges => Content::Part,
+        StatusCode::PRECONDITION_FAILED => Content::Failed(Condition::first_asked(&OF_412, claim)),
+        _ => Content::Other,
+    };
     ContentGap {
-        content: Content::read(claim, state),
+        content,
         due: state.status,
-        told: claim.reply.head.status,
+        told: reply.head.status,
         bodies: body_gap(&claim.request.method, body, state.body.as_slice()),
     }
 }
@@ -201,12 +189,8 @@ impl BodyGap {
     }
 }
 
-// Tells a status after a text, and how many octets a body has, if that is told.
-fn say_status<T: Teller>(before: &str, status: StatusCode, octets: Option<u64>, teller: &mut T) {
-    teller.count(before, u64::from(status.as_u16()), "");
-    if let Some(octets) = octets {
-        teller.count(" with ", octets, " octets");
-    }
+fn number(status: StatusCode) -> u64 {
+    u64::from(status.as_u16())
 }
 
 // Tells after a text of which part the reply tells, and how long the whole is.
@@ -241,7 +225,7 @@ impl ContentGap {
         if self.is_of_body() {
             teller.words("another body");
         } else {
-            say_status("another status: ", self.told, None, teller);
+            teller.count("another status: ", number(self.told), "");
         }
     }
 
@@ -259,7 +243,7 @@ impl ContentGap {
                 "RFC 9110 section 14.2",
                 "a range is answered by the whole that is stored, or by that part of it",
             ),
-            Content::Evaluated(_) => Demand::of(
+            Content::Failed(Some(condition)) if condition.is_for_origins() => Demand::of(
                 "RFC 9111 section 4.3.2",
                 "a cache MUST NOT evaluate If-Match and If-Unmodified-Since: it gives what is stored, or asks the origin",
             ),
@@ -269,34 +253,29 @@ impl ContentGap {
 
     /// Tells how the status or the body of the reply differs from the response's.
     pub fn tell<T: Teller>(&self, claim: &ReplyClaim<'_>, state: &Stored, teller: &mut T) {
+        let pair = (claim, state);
         if self.is_unearned() {
-            return self.tell_unearned((claim, state), teller);
+            return self.tell_unearned(pair, teller);
         }
-        teller.fact("due_status", u64::from(self.due.as_u16()));
-        teller.fact("told_status", u64::from(self.told.as_u16()));
+        teller.fact("due_status", number(self.due));
+        teller.fact("told_status", number(self.told));
         if let Some(bodies) = self.bodies {
             bodies.tell(teller);
         }
-        let pair = (claim, state);
         match self.content {
             // What was due in its place, and what it has (RFC 9110 section 15.5.17).
             Content::Unsatisfied => {
                 let whole = state.body.len() as u64;
-                say_status("due ", self.due, None, teller);
+                teller.count("due ", number(self.due), "");
                 teller.count(" with all ", whole, " octets that are stored, ");
                 teller.count("or a 416 with content-range \"bytes */", whole, "\"; ");
                 tell_range("the reply is a 416 with content-range ", pair, teller);
             }
-            Content::Evaluated(condition) => self.tell_evaluated(condition, pair, teller),
             Content::Part => {
                 self.say(teller);
                 tell_range("; content-range ", pair, teller);
             }
-            Content::Failed(condition) => {
-                self.say(teller);
-                teller.words("; ");
-                condition.tell(",", pair, teller);
-            }
+            Content::Failed(Some(condition)) => self.tell_failed(condition, pair, teller),
             _ => self.say(teller),
         }
     }
@@ -304,12 +283,11 @@ impl ContentGap {
     fn tell_unearned<T: Teller>(&self, pair: Pair<'_>, teller: &mut T) {
         teller.words("no condition earns the 304: ");
         match self.content {
-            Content::Unearned(Some(condition)) => condition.tell(",", pair, teller),
-            Content::Unearned(None) => teller.words("the request has none"),
-            _ => {
-                let status = u64::from(self.due.as_u16());
-                teller.number("due_status", "its status is ", status, "");
+            Content::Unearned(Some(condition)) => {
+                condition.tell(", the stored response's ", pair, teller);
             }
+            Content::Unearned(None) => teller.words("the request has none"),
+            _ => teller.number("due_status", "its status is ", number(self.due), ""),
         }
     }
 
@@ -317,8 +295,8 @@ impl ContentGap {
     fn say<T: Teller>(&self, teller: &mut T) {
         let is_of_body = self.due == self.told;
         if !is_of_body {
-            say_status("status: due ", self.due, None, teller);
-            say_status(", the reply has ", self.told, None, teller);
+            teller.count("status: due ", number(self.due), "");
+            teller.count(", the reply has ", number(self.told), "");
         }
         if let Some(bodies) = self.bodies {
             teller.separator(is_of_body, "", "; ");
@@ -326,16 +304,23 @@ impl ContentGap {
         }
     }
 
-    // Tells the condition that a cache evaluated which origins alone evaluate, what was due, and what came.
-    fn tell_evaluated<T: Teller>(&self, condition: Condition, pair: Pair<'_>, teller: &mut T) {
-        let (due, told) = match self.bodies {
-            Some(bodies) => (Some(bodies.due), Some(bodies.told)),
-            None => (None, None),
-        };
+    // Tells a 412 by a condition: of one that origins alone evaluate that the cache did, what was due, and what came.
+    fn tell_failed<T: Teller>(&self, condition: Condition, pair: Pair<'_>, teller: &mut T) {
+        if !condition.is_for_origins() {
+            self.say(teller);
+            teller.words("; ");
+            return condition.tell(", the stored response's ", pair, teller);
+        }
         teller.words("the cache evaluated ");
-        condition.tell(" against", pair, teller);
-        say_status(", which it must not: due ", self.due, due, teller);
+        condition.tell(" against the stored response's ", pair, teller);
+        teller.count(", which it must not: due ", number(self.due), "");
+        if let Some(bodies) = self.bodies {
+            teller.count(" with ", bodies.due, " octets");
+        }
         let before = " as it is stored, or an answer of the origin, the reply has ";
-        say_status(before, self.told, told, teller);
+        teller.count(before, number(self.told), "");
+        if let Some(bodies) = self.bodies {
+            teller.count(" with ", bodies.told, " octets");
+        }
     }
 }

@@ -120,6 +120,37 @@ fn change_of(claim: &ReplyClaim<'_>, state: &Stored, name: &[u8]) -> Change
     }
 }
 
+impl Differences {
+    // Takes in the field of that name: one that differs is listed, or counted where there is no room.
+    fn take(
+        &mut self,
+        alloc: Global,
+        claim: &ReplyClaim<'_>,
+        state: &Stored,
+        name: &[u8],
+    ) -> Result<(), AllocError>
+        ensures { OnOk result ((names : List (List ℕ)) → AreListed claim.now state.now names self.old
+            → AreListed claim.now state.now (names ++ filter (differs claim.now state.now) (name.now ∷ [])) self.new) }
+    {
+        if !differs(alloc, claim, state, name)? {
+            return Ok(());
+        }
+        if MOST_LISTED <= self.listed.len() {
+            self.more = self.more.saturating_add(1);
+            return Ok(());
+        }
+        // What is no list means something by each octet, and each line of Set-Cookie something by itself.
+        let both = (&claim.reply.head.fields, &state.fields);
+        let is_form = !is_among(&SINGLE, name) && means_the_same(alloc, name, both, false)?;
+        self.listed.push(FieldGap {
+            name: Octets::from_slice(alloc, name)?,
+            change: change_of(claim, state, name),
+            is_form,
+        })?;
+        Ok(())
+    }
+}
+
 /// The fields that are compared, and of which the reply has other values than the stored response, and none that
 /// are allowed in their place.
 pub fn compare(
@@ -137,21 +168,7 @@ pub fn compare(
         more: 0,
     };
     for name in names.as_slice() {
-        if !differs(alloc, claim, state, name)? {
-            continue;
-        }
-        if MOST_LISTED <= found.listed.len() {
-            found.more = found.more.saturating_add(1);
-            continue;
-        }
-        // What is no list means something by each octet, and each line of Set-Cookie something by itself.
-        let both = (&claim.reply.head.fields, &state.fields);
-        let is_form = !is_among(&SINGLE, name) && means_the_same(alloc, name, both, false)?;
-        found.listed.push(FieldGap {
-            name: Octets::from_slice(alloc, name)?,
-            change: change_of(claim, state, name),
-            is_form,
-        })?;
+        found.take(alloc, claim, state, name)?;
     }
     Ok(found)
 }
@@ -181,27 +198,19 @@ pub struct FieldsOrigin<'a> {
 impl FieldsOrigin<'_> {
     // Whether the 304 that freshened it last is known to have that field.
     fn has_renewed(&self, name: &[u8]) -> bool {
-        match self.validator {
-            Some((_, renewed)) => renewed.contains(name),
-            None => false,
-        }
+        matches!(self.validator, Some((_, renewed)) if renewed.contains(name))
     }
 
     // Whether the response is known to have come without a Date.
     fn is_undated(&self) -> bool {
-        match self.first {
-            Some(first) => !first.contains(b"date"),
-            None => false,
-        }
+        matches!(self.first, Some(first) if !first.contains(b"date"))
     }
 
     // Tells of which record a value is that is due.
     fn say<T: Teller>(&self, name: &[u8], stored: &Fields, teller: &mut T) {
         let is_date = name == b"date".as_slice();
-        let came_otherwise = match self.first {
-            Some(first) => !first.values(name).eq(stored.values(name)),
-            None => false,
-        };
+        let came_otherwise =
+            matches!(self.first, Some(first) if !first.values(name).eq(stored.values(name)));
         match self.validator {
             Some((validator, renewed)) if renewed.contains(name) => {
                 teller.record(" (of the 304 ", validator);
@@ -331,8 +340,7 @@ impl Differences {
     }
 
     // Writes each with that change and what it is, with a comma after whatever stands before it.
-    fn name_each(&self, change: Change, is_first: bool, page: &mut Page) -> bool {
-        let mut is_first = is_first;
+    fn name_each(&self, change: Change, mut is_first: bool, page: &mut Page) -> bool {
         for gap in self.listed.iter() {
             if gap.change == change {
                 page.separator(is_first, "", ", ");
@@ -352,15 +360,14 @@ impl Differences {
         page.say_more(self.more);
     }
 
-    // Tells those with that change after so many others, as far as they are named, and returns how many are named then.
+    // Tells those with that change after so many others that were said, as far as they are named, and returns how many are then.
     fn tell_changed<T: Teller>(
         &self,
         change: Change,
         sides: Sides<'_>,
-        before: usize,
+        mut said: usize,
         teller: &mut T,
     ) -> usize {
-        let mut said = before;
         for gap in self.listed.iter() {
             if gap.change == change && said < NAMED {
                 teller.separator(said == 0, "", "; ");

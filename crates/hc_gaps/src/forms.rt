@@ -1,6 +1,6 @@
 //! Values that mean the same though they are written in other ways, and fields that a directive names.
 
-use hc_fields::{Fields, Octets, is_among, list_members};
+use hc_fields::{Fields, is_among, list_members};
 use std::alloc::{AllocError, Global};
 
 /// The fields that are lists without an order, in which letters may be of either case (RFC 9110 section 12.5).
@@ -31,34 +31,24 @@ impl Place {
     }
 }
 
-// Whether an octet separates the things of a list, or the parameters of one.
-fn separates(octet: u8) -> bool {
-    octet == b',' || octet == b';'
-}
-
-// Whether nothing stands at the end of those octets, or what separates.
-fn ends_at_separator(octets: &[u8]) -> bool {
-    match octets.last() {
-        Some(last) => separates(*last),
-        None => true,
-    }
-}
-
 // Puts those octets at the end of none, without the blanks beside commas and semicolons, but for those in quoted strings.
 fn tighten(octets: &[u8], tight: &mut Vec<u8>) -> Result<(), AllocError> {
     let mut without_blanks: usize = 0;
+    let mut is_behind_separator = true;
     let mut place = Place::Plain;
     for octet in octets {
         let is_plain = matches!(place, Place::Plain);
         let is_blank = is_plain && (*octet == b' ' || *octet == b'\t');
-        if is_plain && separates(*octet) {
+        let is_separator = is_plain && (*octet == b',' || *octet == b';');
+        if is_separator {
             tight.truncate(without_blanks);
         }
-        if !is_blank || !ends_at_separator(tight.as_slice()) {
+        if !is_blank || !is_behind_separator {
             tight.push(*octet)?;
         }
         if !is_blank {
             without_blanks = tight.len();
+            is_behind_separator = is_separator;
         }
         place = place.after(*octet);
     }
@@ -66,14 +56,21 @@ fn tighten(octets: &[u8], tight: &mut Vec<u8>) -> Result<(), AllocError> {
     Ok(())
 }
 
-// What those fields have of a name in lower case, without such blanks; none where there is none.
-fn tight_of(alloc: Global, name: &[u8], fields: &Fields) -> Result<Option<Octets>, AllocError> {
-    let Some(value) = fields.joined(alloc, name)? else {
-        return Ok(None);
-    };
+// What those fields have of a name in lower case, without such blanks, and in lower case if that means the same.
+fn tight_of(
+    alloc: Global,
+    name: &[u8],
+    fields: &Fields,
+    in_any_case: bool,
+) -> Result<Vec<u8>, AllocError> {
     let mut tight = Vec::new(alloc);
-    tighten(value.as_slice(), &mut tight)?;
-    Ok(Some(Octets::from_vec(tight)))
+    if let Some(value) = fields.joined(alloc, name)? {
+        tighten(value.as_slice(), &mut tight)?;
+    }
+    if in_any_case {
+        return tight.as_slice().to_ascii_lowercase(alloc);
+    }
+    Ok(tight)
 }
 
 // The things of a list in rising order, each as often as it stands there.
@@ -93,17 +90,6 @@ fn have_the_same(alloc: Global, one: &[u8], other: &[u8]) -> Result<bool, AllocE
     Ok(one.as_slice() == other.as_slice())
 }
 
-// Whether the same things stand in both lists, each equally often, with letters of either case.
-fn have_the_same_in_any_case(
-    alloc: Global,
-    one: &Octets,
-    other: &Octets,
-) -> Result<bool, AllocError> {
-    let one = one.as_slice().to_ascii_lowercase(alloc)?;
-    let other = other.as_slice().to_ascii_lowercase(alloc)?;
-    have_the_same(alloc, one.as_slice(), other.as_slice())
-}
-
 /// Whether both have the field, and mean the same by it though it may be written in other ways: with blanks beside commas and
 /// semicolons, or in several lines (RFC 9110 sections 5.3 and 5.6.1). Where Vary selects by it, the order and the case of letters
 /// mean nothing either in a list of preferences (RFC 9111 section 4.1, RFC 9110 section 12.5).
@@ -114,27 +100,18 @@ pub fn means_the_same(
     is_selector: bool,
 ) -> Result<bool, AllocError> {
     let name = name.to_ascii_lowercase(alloc)?;
-    let one = tight_of(alloc, name.as_slice(), one)?;
-    let other = tight_of(alloc, name.as_slice(), other)?;
-    let (Some(one), Some(other)) = (&one, &other) else {
+    let name = name.as_slice();
+    if !one.contains(name) || !other.contains(name) {
         return Ok(false);
-    };
-    let is_preference = is_selector && is_among(&PREFERENCES, name.as_slice());
-    if one == other || !is_preference {
-        return Ok(one == other);
     }
-    have_the_same_in_any_case(alloc, one, other)
-}
-
-/// Of which fields alone a response says something by a directive.
-#[derive(Clone, Copy, PartialEq, Eq)]
-pub enum Qualified {
-    /// Of all that it is.
-    Wholly,
-    /// Of some fields, of which the reply has none that the response has.
-    LeftOut,
-    /// Of some fields, of which both have one.
-    Kept,
+    let is_preference = is_selector && is_among(&PREFERENCES, name);
+    let one = tight_of(alloc, name, one, is_preference)?;
+    let other = tight_of(alloc, name, other, is_preference)?;
+    if is_preference {
+        have_the_same(alloc, one.as_slice(), other.as_slice())
+    } else {
+        Ok(one.as_slice() == other.as_slice())
+    }
 }
 
 // Whether a field of that name, in any case, is among those.
@@ -171,23 +148,17 @@ fn after_directive<'a>(member: &'a [u8], directive: &[u8]) -> Option<&'a [u8]> {
     }
 }
 
-/// Of which fields alone those of a response say that directive, where the reply to which these belong gives it (RFC 9111
-/// sections 5.2.2.4 and 5.2.2.7).
-pub fn qualified_by(directive: &[u8], response: &Fields, reply: &Fields) -> Qualified {
-    let mut found = Qualified::Wholly;
+/// Whether those of a response say that directive of some fields alone, of which the reply to which these belong has none that
+/// the response has (RFC 9111 sections 5.2.2.4 and 5.2.2.7).
+pub fn leaves_out(directive: &[u8], response: &Fields, reply: &Fields) -> bool {
+    let mut is_said = false;
     for member in response.members(b"cache-control") {
-        let Some(rest) = after_directive(member, directive) else {
-            continue;
-        };
-        if rest.is_empty() {
-            return Qualified::Wholly;
-        }
-        if let Some(named) = rest.strip_prefix(b"=") {
-            if has_named(named, response, reply) {
-                return Qualified::Kept;
-            }
-            found = Qualified::LeftOut;
+        match after_directive(member, directive) {
+            Some([]) => return false,
+            Some([b'=', named @ ..]) if has_named(named, response, reply) => return false,
+            Some([b'=', ..]) => is_said = true,
+            _ => {}
         }
     }
-    found
+    is_said
 }

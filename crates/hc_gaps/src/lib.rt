@@ -22,7 +22,7 @@ pub use aging::{AgeGap, AgeOrigin, Aged, TTL, TtlGap, age_gap, ttl_gap};
 pub use contents::{BodyGap, ContentGap, PERMITTED_PART, body_gap, content_gap, has_body};
 pub use demand::{Demand, NO_HIT, STORED_ANSWER};
 pub use differing::{Change, Differences, FieldGap, FieldsOrigin, compare};
-pub use forms::{Qualified, qualified_by};
+pub use forms::leaves_out;
 pub use laws::{least_setting_permits, named_permit_permits, no_setting_permits};
 pub use newest::{NAMED, Newest};
 pub use permits::{StaleUse, stale_use};

@@ -146,10 +146,10 @@ impl StaleUse {
         }
     }
 
-    /// Tells what permits to give the response, of which Expires alone says the lifetime or not.
-    pub fn tell<T: Teller>(&self, is_by_expires: bool, origin: AgeOrigin, teller: &mut T) {
+    /// Tells what permits to give the response.
+    pub fn tell<T: Teller>(&self, origin: AgeOrigin, teller: &mut T) {
         teller.words("no fault: ");
-        self.usage.tell_age(is_by_expires, origin, teller);
+        self.usage.tell_age(origin, teller);
         self.usage.say_staleness(teller);
         let (before, after) = self.permit.words();
         let seconds = self.permitted_seconds();

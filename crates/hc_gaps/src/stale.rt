@@ -75,8 +75,8 @@ fn tolerated(claim: &ReplyClaim<'_>, state: &Stored) -> Option<u32>
         return None;
     }
     let said = stale_said(claim, state);
-    let (while_stale, meanwhile) = (said.max_stale, said.while_revalidating);
-    let by_both = greater(seconds_in(while_stale), seconds_in(meanwhile));
+    let max_stale = seconds_in(said.max_stale);
+    let by_both = greater(max_stale, seconds_in(said.while_revalidating));
     let ever = greater(claim.settings.allowed.grace, by_both);
     if claim.has_error || claim.has_failure {
         let on_error = greater(seconds_in(said.if_error), seconds_in(said.asked_if_error));
@@ -159,23 +159,6 @@ pub(crate) fn number_in(said: Seconds) -> Option<u64> {
     seconds(seconds_in(said))
 }
 
-// Tells by how much a response that is so stale is staler than a directive of a message permits, or that there was no error for
-// it, if that says a number.
-fn say_over<T: Teller>(stale: Option<u32>, name: &str, said: Seconds, of: &str, teller: &mut T) {
-    let Seconds::Value(seconds) = said else {
-        return;
-    };
-    match stale {
-        Some(stale) => {
-            teller.count("; ", u64::from(stale.saturating_sub(seconds)), " over ");
-        }
-        None => teller.words("; no error for "),
-    }
-    teller.words(name);
-    teller.count(" ", u64::from(seconds), " of the ");
-    teller.words(of);
-}
-
 impl StaleSaid {
     /// Tells the seconds of each directive to an object.
     pub(crate) fn tell<T: Teller>(&self, teller: &mut T) {
@@ -185,19 +168,31 @@ impl StaleSaid {
         teller.some("asked_stale_if_error", number_in(self.asked_if_error));
     }
 
-    /// Tells by how much a response that is so stale is staler than is permitted.
+    // What each directive says, with its name, a text of which message it is, and whether it permits nothing without an error.
+    fn rows(&self) -> [(Seconds, &'static str, &'static str, bool); 4] {
+        let meanwhile = "stale-while-revalidate";
+        let (of_response, of_request) = (" of the response", " of the request");
+        [
+            (self.while_revalidating, meanwhile, of_response, false),
+            (self.max_stale, "max-stale", of_request, false),
+            (self.if_error, "stale-if-error", of_response, true),
+            (self.asked_if_error, "stale-if-error", of_request, true),
+        ]
+    }
+
+    /// Tells by how much a response that is so stale is staler than each number permits, or that there was no error for it.
     pub(crate) fn say_over<T: Teller>(&self, stale: u32, had_error: bool, teller: &mut T) {
-        let (always, on_error) = (Some(stale), if had_error { Some(stale) } else { None });
-        let (meanwhile, if_error) = ("stale-while-revalidate", "stale-if-error");
-        say_over(
-            always,
-            meanwhile,
-            self.while_revalidating,
-            "response",
-            teller,
-        );
-        say_over(always, "max-stale", self.max_stale, "request", teller);
-        say_over(on_error, if_error, self.if_error, "response", teller);
-        say_over(on_error, if_error, self.asked_if_error, "request", teller);
+        for (said, name, of_message, is_on_error) in self.rows() {
+            let Seconds::Value(seconds) = said else {
+                continue;
+            };
+            if is_on_error && !had_error {
+                teller.words("; no error for ");
+            } else {
+                teller.count("; ", u64::from(stale.saturating_sub(seconds)), " over ");
+            }
+            teller.words(name);
+            teller.count(" ", u64::from(seconds), of_message);
+        }
     }
 }

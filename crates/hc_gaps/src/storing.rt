@@ -69,15 +69,6 @@ impl Forbids {
         !by_request && !by_response && !self.uninvited
     }
 
-    /// Whether `private` alone forbids it.
-    pub fn is_private_alone(&self) -> bool {
-        let others = Forbids {
-            private: false,
-            ..*self
-        };
-        self.private && others.is_nothing()
-    }
-
     /// What is asked by the first that forbids, as RFCs go.
     pub fn demand(&self) -> Demand
         ensures { result.sections.now ≡ storing_sections self.now }
@@ -159,24 +150,18 @@ impl Forbids {
     pub fn tell<T: Teller>(&self, with_sections: bool, teller: &mut T) {
         let mut is_first = true;
         for (forbids, words, section) in self.rows() {
-            if !forbids {
-                continue;
+            if forbids {
+                teller.separator(is_first, "", " and ");
+                teller.words(words);
+                if with_sections {
+                    let is_stricter = is_first && self.method;
+                    let stricter = " (this auditor's stricter rule: RFC 9111 section ";
+                    teller.separator(is_stricter, stricter, " (RFC 9111 section ");
+                    teller.words(section);
+                    teller.words(")");
+                }
+                is_first = false;
             }
-            teller.separator(is_first, "", " and ");
-            teller.words(words);
-            if with_sections {
-                let is_stricter = is_first && self.method;
-                teller.words(" (");
-                teller.words(if is_stricter {
-                    "this auditor's stricter rule: "
-                } else {
-                    ""
-                });
-                teller.words("RFC 9111 section ");
-                teller.words(section);
-                teller.words(")");
-            }
-            is_first = false;
         }
     }
 }

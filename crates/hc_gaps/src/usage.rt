@@ -1,11 +1,11 @@
 //! Why a stored response may not be used for a reply (RFC 9111 section 4).
 
-ghost use Rattle.std.specs.Prelude.{◌≡◌, ◌&&◌};
+ghost use Rattle.std.specs.Prelude.{◌≡◌};
 ghost use Rattle.hc_history.specs.Allowing.{allowed_lifetime};
 ghost use Rattle.hc_gaps.specs.Trusting.{is_fresh_at, is_fresh_by_age_alone};
-ghost use Rattle.hc_gaps.specs.Demanding.{lifetime_sections, says_no_cache, stale_sections, use_sections};
+ghost use Rattle.hc_gaps.specs.Demanding.{lifetime_sections, stale_sections, use_sections};
 ghost use Rattle.hc_gaps.specs.Forbidding.{forbids_stale, unusable_by};
-ghost use Rattle.hc_gaps.specs.Using.{lent_to, stale_by, stated_lifetime, usage_of};
+ghost use Rattle.hc_gaps.specs.Using.{lent_to, stale_by, usage_of};
 
 use crate::aging::{AgeOrigin, AgeParts, age_parts, say_slack};
 use crate::demand::Demand;
@@ -84,17 +84,6 @@ fn unusable_by(state: &Stored) -> Unusable
     }
 }
 
-// The lifetime that a stored response states, if it states one.
-fn stated_lifetime(state: &Stored) -> Option<u32>
-    ensures { result ≡ stated_lifetime state.now }
-{
-    if explicit(&state.fields) {
-        Some(lifetime_of(state))
-    } else {
-        None
-    }
-}
-
 // The lifetime that the audit gives the response, which states none.
 fn lent_to(claim: &ReplyClaim<'_>, state: &Stored) -> Option<u32>
     ensures { result ≡ lent_to claim.now state.now }
@@ -132,7 +121,7 @@ pub fn usage_at(claim: &ReplyClaim<'_>, state: &Stored) -> Usage
     ensures { result ≡ usage_of claim.now state.now }
 {
     Usage {
-        lifetime: stated_lifetime(state),
+        lifetime: explicit(&state.fields).then_some(lifetime_of(state)),
         lent: lent_to(claim, state),
         age: age_of(claim, state),
         parts: age_parts(claim, state),
@@ -168,41 +157,6 @@ const NO_CACHE_FIELDS: Demand = Demand {
     words: "what says no-cache, of whichever fields, isn't used before it is validated",
 };
 
-const MUST_REVALIDATE: Demand = Demand {
-    sections: "RFC 9111 section 5.2.2.2",
-    words: "what says must-revalidate MUST NOT be used once it is stale, before it is validated",
-};
-
-const PROXY_REVALIDATE: Demand = Demand {
-    sections: "RFC 9111 section 5.2.2.8",
-    words: "what says proxy-revalidate MUST NOT be used once it is stale, before it is validated",
-};
-
-const S_MAXAGE: Demand = Demand {
-    sections: "RFC 9111 section 5.2.2.10",
-    words: "what says s-maxage MUST NOT be used once it is stale, before it is validated",
-};
-
-const STALE: Demand = Demand {
-    sections: "RFC 9111 section 4.2.4",
-    words: "what is stale MUST NOT be given before it is validated, but where that is permitted",
-};
-
-const STALE_BY_DATE: Demand = Demand {
-    sections: "no RFC (RFC 9111 section 4.2.3 lets a cache count by Age alone where it trusts that), but this auditor's stricter rule",
-    words: "what is stale by its Age or by its Date isn't given before it is validated, but where that is permitted",
-};
-
-const STALE_AFTER_ERROR: Demand = Demand {
-    sections: "no RFC (RFC 9111 section 4.3.3 lets a cache take an error for no answer, and give what is stale), but this auditor's stricter rule",
-    words: "what is stale is given after an error where stale-if-error permits that, and else the error is",
-};
-
-const NO_LIFETIME: Demand = Demand {
-    sections: "no RFC (RFC 9111 section 4.2.2 permits heuristics), but this auditor's stricter rule",
-    words: "what says no lifetime has none, but for --default-ttl",
-};
-
 impl Usage {
     /// What is asked of a response that states no lifetime: no RFC forbids to use it, but where it says `no-cache`, if that isn't
     /// said of fields alone which the reply leaves out.
@@ -212,7 +166,10 @@ impl Usage {
         match self.forbidden {
             Unusable::NoCache if leaves_fields_out => NO_CACHE_FIELDS,
             Unusable::NoCache => NO_CACHE,
-            _ => NO_LIFETIME,
+            _ => Demand::of(
+                "no RFC (RFC 9111 section 4.2.2 permits heuristics), but this auditor's stricter rule",
+                "what says no lifetime has none, but for --default-ttl",
+            ),
         }
     }
 
@@ -234,24 +191,21 @@ impl Usage {
         }
     }
 
-    // Whether it says `no-cache`, and nothing else forbids to use it.
-    fn is_forbidden_by_no_cache_alone(&self) -> bool
-        ensures { result ≡ (says_no_cache self.now.forbidden && is_fresh_at self.now self.now.age) }
-    {
-        self.forbidden == Unusable::NoCache && self.is_fresh_at(u64::from(self.age))
-    }
-
     /// What is asked of the use of a response, after an error of the origin or not. What says `no-cache` of fields alone which
     /// the reply leaves out may be used as if it didn't, as long as it is fresh.
     pub fn demand_of_use(&self, leaves_fields_out: bool, is_after_error: bool) -> Demand
         ensures { result.sections.now ≡ use_sections self.now leaves_fields_out is_after_error }
     {
-        if self.forbidden == Unusable::NoCache && !leaves_fields_out {
+        let says_no_cache = self.forbidden == Unusable::NoCache;
+        if says_no_cache && !leaves_fields_out {
             NO_CACHE
-        } else if self.is_forbidden_by_no_cache_alone() {
+        } else if says_no_cache && self.is_fresh_at(u64::from(self.age)) {
             NO_CACHE_FIELDS
         } else if self.is_fresh_by_age_alone() {
-            STALE_BY_DATE
+            Demand::of(
+                "no RFC (RFC 9111 section 4.2.3 lets a cache count by Age alone where it trusts that), but this auditor's stricter rule",
+                "what is stale by its Age or by its Date isn't given before it is validated, but where that is permitted",
+            )
         } else {
             self.demand_of_stale(is_after_error)
         }
@@ -262,11 +216,26 @@ impl Usage {
         ensures { result.sections.now ≡ stale_sections self.now.forbids_stale is_after_error }
     {
         match self.forbids_stale {
-            Unusable::MustRevalidate => MUST_REVALIDATE,
-            Unusable::ProxyRevalidate => PROXY_REVALIDATE,
-            Unusable::SMaxage => S_MAXAGE,
-            _ if is_after_error => STALE_AFTER_ERROR,
-            _ => STALE,
+            Unusable::MustRevalidate => Demand::of(
+                "RFC 9111 section 5.2.2.2",
+                "what says must-revalidate MUST NOT be used once it is stale, before it is validated",
+            ),
+            Unusable::ProxyRevalidate => Demand::of(
+                "RFC 9111 section 5.2.2.8",
+                "what says proxy-revalidate MUST NOT be used once it is stale, before it is validated",
+            ),
+            Unusable::SMaxage => Demand::of(
+                "RFC 9111 section 5.2.2.10",
+                "what says s-maxage MUST NOT be used once it is stale, before it is validated",
+            ),
+            _ if is_after_error => Demand::of(
+                "no RFC (RFC 9111 section 4.3.3 lets a cache take an error for no answer, and give what is stale), but this auditor's stricter rule",
+                "what is stale is given after an error where stale-if-error permits that, and else the error is",
+            ),
+            _ => Demand::of(
+                "RFC 9111 section 4.2.4",
+                "what is stale MUST NOT be given before it is validated, but where that is permitted",
+            ),
         }
     }
 }
@@ -276,10 +245,10 @@ const PAST: &str =
     "lifetime 0 (an Expires that is no date, or not later than the Date, is past: RFC 9111 section 5.3)";
 
 impl Usage {
-    // Tells the lifetime that the response states, which Expires alone says or not, or the one that it is given.
-    fn tell_lifetime<T: Teller>(&self, is_by_expires: bool, teller: &mut T) {
+    /// Tells how old the response is, and its lifetime: the one that it states, or is given.
+    pub(crate) fn tell_age<T: Teller>(&self, origin: AgeOrigin, teller: &mut T) {
         match self.lifetime {
-            Some(0) if is_by_expires => teller.words(PAST),
+            Some(0) if origin.is_by_expires => teller.words(PAST),
             Some(seconds) => teller.count("lifetime ", u64::from(seconds), ""),
             None => teller.words("no lifetime is stated"),
         }
@@ -287,16 +256,6 @@ impl Usage {
         if let Some(lent) = self.lent {
             teller.number("default_ttl", ", ", u64::from(lent), " by --default-ttl");
         }
-    }
-
-    /// Tells how old the response is.
-    pub(crate) fn tell_age<T: Teller>(
-        &self,
-        is_by_expires: bool,
-        origin: AgeOrigin,
-        teller: &mut T,
-    ) {
-        self.tell_lifetime(is_by_expires, teller);
         teller.number("age", ", age ", u64::from(self.age), "");
         self.parts.tell(origin, teller);
         teller.some("stale_by", seconds(self.stale_by));
@@ -310,18 +269,11 @@ impl Usage {
         }
     }
 
-    /// Tells why the response may not be used, of which Expires alone says the lifetime or not. It is told whether an error or a
-    /// failure stands between request and reply.
-    pub fn tell<T: Teller>(
-        &self,
-        is_by_expires: bool,
-        had_error: bool,
-        origin: AgeOrigin,
-        teller: &mut T,
-    ) {
-        self.tell_age(is_by_expires, origin, teller);
+    /// Tells why the response may not be used. It is told whether an error or a failure stands between request and reply.
+    pub fn tell<T: Teller>(&self, had_error: bool, origin: AgeOrigin, teller: &mut T) {
+        self.tell_age(origin, teller);
         self.say_staleness(teller);
-        say_slack(self.slack, "--slack", teller);
+        say_slack(self.slack, " by --slack)", teller);
         teller.words("; ");
         teller.words(self.forbidden.words());
         teller.word("forbidden", self.forbidden.words());
@@ -329,11 +281,6 @@ impl Usage {
         if let (Some(stale), Unusable::NothingPermits) = (self.stale_by, self.forbidden) {
             self.said.say_over(stale, had_error, teller);
         }
-        self.tell_setting(teller);
-    }
-
-    // Tells the setting that would permit it to an object.
-    fn tell_setting<T: Teller>(&self, teller: &mut T) {
         match self.setting {
             Some(setting) => {
                 let (name, least) = setting.named();

@@ -6,9 +6,7 @@ use crate::past::End;
 use crate::shortfalls::{Nearest, Shortfall};
 use crate::wrongs::Why;
 use hc_fields::Fields;
-use hc_gaps::{
-    Demand, Forbids, NO_HIT, PRIVATE_FIELDS, Qualified, STORED_ANSWER, TTL, qualified_by,
-};
+use hc_gaps::{Demand, Forbids, NO_HIT, PRIVATE_FIELDS, STORED_ANSWER, TTL, leaves_out};
 use hc_head::{ResponseHead, StatusCode};
 use hc_history::Reason;
 
@@ -104,7 +102,7 @@ impl Explanation<'_> {
     // Whether those of a response say the directive of fields alone, of which the reply has none.
     fn leaves_out(&self, directive: &[u8], response: &Fields) -> bool {
         let reply = &self.claim.reply.head.fields;
-        qualified_by(directive, response, reply) == Qualified::LeftOut
+        leaves_out(directive, response, reply)
     }
 
     // What is asked where that response is named.

@@ -25,6 +25,7 @@ impl<'a> Explanation<'a> {
             validator,
             sent,
             aged: self.aged(nearest),
+            is_by_expires: self.is_by_expires(nearest),
         }
     }
 
@@ -95,8 +96,7 @@ impl<'a> Explanation<'a> {
             Shortfall::Valid => self.changes.tell_invalidators(teller),
             Shortfall::Lifetime(usage) | Shortfall::Use(usage) => {
                 let had_error = claim.has_error || claim.has_failure;
-                let by_expires = self.is_by_expires(nearest);
-                usage.tell(by_expires, had_error, self.age_origin(nearest), teller);
+                usage.tell(had_error, self.age_origin(nearest), teller);
             }
             Shortfall::Body(gap) => gap.tell(claim, state, teller),
             Shortfall::Fields(found) => {
@@ -177,8 +177,7 @@ impl<'a> Explanation<'a> {
     /// Tells how stale the response is that a right hit gives, and what permits that.
     pub fn tell_stale<T: Teller>(&self, nearest: &Nearest<'_>, teller: &mut T) {
         if let Some(stale) = &self.stale {
-            let by_expires = self.is_by_expires(nearest);
-            stale.tell(by_expires, self.age_origin(nearest), teller);
+            stale.tell(self.age_origin(nearest), teller);
         }
     }
 }

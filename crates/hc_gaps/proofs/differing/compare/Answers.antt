@@ -1,29 +1,15 @@
-use Rattle.std.proofs.Common.{◌≡◌, arith, refl, rules, ◌++◌, ◌∷◌, [], List, ℕ, Bor, get_or, ap, subst, sym, ◌∙◌}
+use Rattle.std.proofs.Common.{◌≡◌, rules, ◌++◌, ◌∷◌, [], List, ℕ, Bor, get_or, ap, subst, sym, ◌∙◌}
 use Rattle.std.proofs.lemmas.List.{append-nil, drop_all}
 use Rattle.std.specs.Prelude.{filter}
 use Rattle.hc_history.specs.Filters.{compared_names}
 use Rattle.hc_gaps.specs.Differing.{AreListed, differing_in, differs, with_names}
-use Rattle.hc_gaps.proofs.NameLemmas.{counted, on_to, plain, taken}
+use Rattle.hc_gaps.proofs.NameLemmas.{on_to, plain}
 use Rattle.hc_gaps.proofs.differing.compare.Goals as goal
 
 pub loop-name-init : goal.loop-name-init
 loop-name-init c =
     let names : plain c.as_slice-name-items.result.now ≡ with_names [] (compared_names c.args.claim.now c.args.state.now) = search rules in
     ([], search rules, ap (filter (differs c.args.claim.now c.args.state.now)) names)
-
-pub loop-name-preserved-then-len-ge-MOST_LISTED : goal.loop-name-preserved-then-len-ge-MOST_LISTED
-loop-name-preserved-then-len-ge-MOST_LISTED c =
-    let claim = c.args.claim.now in
-    let state = c.args.state.now in
-    let before = c.loop-name.invariant in
-    let items = c.as_slice-name-items.result.now in
-    let none : Bor (List ℕ) = record { ref_ptr = (0, 0); now = [] } in
-    let name = (get_or items c.loop-name.name-index none).now in (
-      before.0 ++ filter (differs claim state) (name ∷ []),
-      counted claim state before.0 name c.loop-name.found _ (sym c.in_ok-differs.ensures ∙ c.if-not-branch.false)
-          (omega (arith, c.if-len-ge-MOST_LISTED.true, c.len.ensures, c.loop-name.found.listed.ok.0)) refl c.saturating_add.ensures before.1,
-      on_to (differs claim state) before.0 (differing_in claim state) items c.loop-name.name-index none (search rules) before.2,
-    )
 
 pub loop-name-preserved : goal.loop-name-preserved
 loop-name-preserved c =
@@ -34,9 +20,7 @@ loop-name-preserved c =
     let none : Bor (List ℕ) = record { ref_ptr = (0, 0); now = [] } in
     let name = (get_or items c.loop-name.name-index none).now in (
       before.0 ++ filter (differs claim state) (name ∷ []),
-      taken claim state before.0 name c.loop-name.found _ _ (sym c.in_ok-differs.ensures ∙ c.if-not-branch.false)
-          (omega (arith, c.if-len-ge-MOST_LISTED.false, c.len.ensures, c.loop-name.found.listed.ok.0))
-          c.in_ok-push.ensures.items refl c.in_ok-from_slice.ensures c.change_of.ensures before.1,
+      c.in_ok-take.ensures before.0 before.1,
       on_to (differs claim state) before.0 (differing_in claim state) items c.loop-name.name-index none (search rules) before.2,
     )
 
