@@ -149,13 +149,10 @@ pub(crate) fn say_slack<T: Teller>(slack: u32, by_option: &str, teller: &mut T) 
     }
 }
 
-/// The member of Cache-Status by which a recorder says that it wrote the Age.
-const BY_RECORDER: &[u8] = b"recorder;age-by-date";
-
 // Whether a recorder says that it wrote the Age of the reply of those fields, by its Date.
 fn is_by_recorder(reply: &Fields) -> bool {
     for member in reply.members(b"cache-status") {
-        if member == BY_RECORDER {
+        if member == b"recorder;age-by-date".as_slice() {
             return true;
         }
     }
@@ -296,20 +293,8 @@ impl AgeGap {
         }
     }
 
-    // Tells that the Age with which the response came counts no more since a 304, whose own counts as so much.
-    fn say_former<T: Teller>(&self, aged: Aged, teller: &mut T) {
-        teller.words("; since that 304, which has ");
-        if aged.is_aged_anew {
-            let counted = u64::from(self.parts.times.age_value);
-            teller.count("an Age that counts as ", counted, "");
-        } else {
-            teller.words("no Age");
-        }
-        let after = " came counts no more (RFC 9111 section 4.2)";
-        teller.count(", the Age with which ", aged.position, after);
-    }
-
-    /// Tells the Age that is due, with its sum, and the one that the reply of those fields tells.
+    /// Tells the Age that is due, with its sum, and the one that the reply of those fields tells; and that the Age with which the
+    /// response came counts no more since a 304, whose own counts as so much.
     pub fn tell<T: Teller>(&self, reply: &Fields, origin: AgeOrigin, teller: &mut T) {
         teller.number("due", "age: due ", u64::from(self.due), "");
         teller.fact("slack", u64::from(self.slack));
@@ -326,9 +311,18 @@ impl AgeGap {
             AgeTold::Several => teller.words("several lines"),
             AgeTold::Unreadable => teller.said_value(FieldOf::new(b"age", reply)),
         }
-        if let Some(aged) = origin.aged {
-            self.say_former(aged, teller);
+        let Some(aged) = origin.aged else {
+            return;
+        };
+        if aged.is_aged_anew {
+            let counted = u64::from(self.parts.times.age_value);
+            let before = "; since that 304, which has an Age that counts as ";
+            teller.count(before, counted, "");
+        } else {
+            teller.words("; since that 304, which has no Age");
         }
+        let after = " came counts no more (RFC 9111 section 4.2)";
+        teller.count(", the Age with which ", aged.position, after);
     }
 }
 

@@ -22,14 +22,18 @@ pub struct BodyGap {
     pub agreed: u64,
 }
 
-// A condition of a request (RFC 9110 section 13.2.2).
-#[derive(Clone, Copy)]
-enum Condition {
-    Match,
-    UnmodifiedSince,
-    NoneMatch,
-    ModifiedSince,
-}
+// The name of a condition of a request, and that of what a response has for it (RFC 9110 section 13.2.2).
+type Condition = (&'static str, &'static str);
+
+/// The conditions that origins alone evaluate (RFC 9111 section 4.3.2), and those that caches do, as they go.
+const OF_ORIGINS: [Condition; 2] = [
+    ("if-match", "etag"),
+    ("if-unmodified-since", "last-modified"),
+];
+
+const NONE_MATCH: Condition = ("if-none-match", "etag");
+
+const MODIFIED_SINCE: Condition = ("if-modified-since", "last-modified");
 
 // What a reply is that has another status or another body.
 #[derive(Clone, Copy)]
@@ -41,7 +45,9 @@ enum Content {
     // A 416, and a part, in an audit that allows ranges.
     Unsatisfied,
     Part,
-    // A 412 that this condition explains, if one does.
+    // A 412 by a condition that origins alone evaluate.
+    Evaluated(Condition),
+    // A 412 by another one, if by one.
     Failed(Option<Condition>),
     Other,
 }
@@ -87,54 +93,15 @@ pub fn body_gap(method: &Method, told: &[u8], due: &[u8]) -> Option<BodyGap> {
     })
 }
 
-impl Condition {
-    // The names of the condition and of what a response has for it.
-    fn names(self) -> (&'static str, &'static str) {
-        match self {
-            Condition::Match => ("if-match", "etag"),
-            Condition::UnmodifiedSince => ("if-unmodified-since", "last-modified"),
-            Condition::NoneMatch => ("if-none-match", "etag"),
-            Condition::ModifiedSince => ("if-modified-since", "last-modified"),
+// The first of those conditions that a request has.
+fn first_asked(conditions: &[Condition], claim: &ReplyClaim<'_>) -> Option<Condition> {
+    for condition in conditions {
+        if claim.request.fields.contains(condition.0.as_bytes()) {
+            return Some(*condition);
         }
     }
-
-    // The first of those that a request has.
-    fn first_asked(conditions: &[Condition], claim: &ReplyClaim<'_>) -> Option<Condition> {
-        for condition in conditions {
-            let (asked, _) = condition.names();
-            if claim.request.fields.contains(asked.as_bytes()) {
-                return Some(*condition);
-            }
-        }
-        None
-    }
-
-    // Whether origins alone evaluate it (RFC 9111 section 4.3.2).
-    fn is_for_origins(self) -> bool {
-        matches!(self, Condition::Match | Condition::UnmodifiedSince)
-    }
-
-    // Tells the condition that the request presents, and after a text what the response has for it.
-    fn tell<T: Teller>(self, between: &str, (claim, state): Pair<'_>, teller: &mut T) {
-        let (asked, validator) = self.names();
-        teller.words(asked);
-        let field = FieldOf::new(asked.as_bytes(), &claim.request.fields);
-        teller.value(asked, " ", field);
-        teller.words(between);
-        teller.words(validator);
-        let field = FieldOf::new(validator.as_bytes(), &state.fields);
-        teller.value(validator, " ", field);
-    }
+    None
 }
-
-/// The conditions by which a reply may be a 304, and by which it may be a 412, in the order in which they are evaluated.
-const OF_304: [Condition; 2] = [Condition::NoneMatch, Condition::ModifiedSince];
-
-const OF_412: [Condition; 3] = [
-    Condition::Match,
-    Condition::UnmodifiedSince,
-    Condition::NoneMatch,
-];
 
 /// In what the status or the body of the reply differs from the response's.
 pub fn content_gap(claim: &ReplyClaim<'_>, state: &Stored) -> ContentGap {
@@ -143,10 +110,15 @@ pub fn content_gap(claim: &ReplyClaim<'_>, state: &Stored) -> ContentGap {
     let content = match reply.head.status {
         StatusCode::NOT_MODIFIED if !body.is_empty() => Content::Other,
         StatusCode::NOT_MODIFIED if state.status != StatusCode::OK => Content::OfNoSuccess,
-        StatusCode::NOT_MODIFIED => Content::Unearned(Condition::first_asked(&OF_304, claim)),
+        StatusCode::NOT_MODIFIED => {
+            Content::Unearned(first_asked(&[NONE_MATCH, MODIFIED_SINCE], claim))
+        }
         StatusCode::RANGE_NOT_SATISFIABLE if has_ranges => Content::Unsatisfied,
         StatusCode::PARTIAL_CONTENT if has_ranges => Content::Part,
-        StatusCode::PRECONDITION_FAILED => Content::Failed(Condition::first_asked(&OF_412, claim)),
+        StatusCode::PRECONDITION_FAILED => match first_asked(&OF_ORIGINS, claim) {
+            Some(condition) => Content::Evaluated(condition),
+            None => Content::Failed(first_asked(&[NONE_MATCH], claim)),
+        },
         _ => Content::Other,
     };
     ContentGap {
@@ -189,8 +161,27 @@ impl BodyGap {
     }
 }
 
+/// What stands between a condition and what the response has for it.
+const ITS: &str = ", the stored response's ";
+
 fn number(status: StatusCode) -> u64 {
     u64::from(status.as_u16())
+}
+
+// Tells the condition that the request presents, and after a text what the response has for it.
+fn tell_condition<T: Teller>(
+    (asked, validator): Condition,
+    between: &str,
+    (claim, state): Pair<'_>,
+    teller: &mut T,
+) {
+    let field = FieldOf::new(asked.as_bytes(), &claim.request.fields);
+    teller.words(asked);
+    teller.value(asked, " ", field);
+    let field = FieldOf::new(validator.as_bytes(), &state.fields);
+    teller.words(between);
+    teller.words(validator);
+    teller.value(validator, " ", field);
 }
 
 // Tells after a text of which part the reply tells, and how long the whole is.
@@ -243,7 +234,7 @@ impl ContentGap {
                 "RFC 9110 section 14.2",
                 "a range is answered by the whole that is stored, or by that part of it",
             ),
-            Content::Failed(Some(condition)) if condition.is_for_origins() => Demand::of(
+            Content::Evaluated(_) => Demand::of(
                 "RFC 9111 section 4.3.2",
                 "a cache MUST NOT evaluate If-Match and If-Unmodified-Since: it gives what is stored, or asks the origin",
             ),
@@ -275,7 +266,12 @@ impl ContentGap {
                 self.say(teller);
                 tell_range("; content-range ", pair, teller);
             }
-            Content::Failed(Some(condition)) => self.tell_failed(condition, pair, teller),
+            Content::Evaluated(condition) => self.tell_evaluated(condition, pair, teller),
+            Content::Failed(Some(condition)) => {
+                self.say(teller);
+                teller.words("; ");
+                tell_condition(condition, ITS, pair, teller);
+            }
             _ => self.say(teller),
         }
     }
@@ -283,9 +279,7 @@ impl ContentGap {
     fn tell_unearned<T: Teller>(&self, pair: Pair<'_>, teller: &mut T) {
         teller.words("no condition earns the 304: ");
         match self.content {
-            Content::Unearned(Some(condition)) => {
-                condition.tell(", the stored response's ", pair, teller);
-            }
+            Content::Unearned(Some(condition)) => tell_condition(condition, ITS, pair, teller),
             Content::Unearned(None) => teller.words("the request has none"),
             _ => teller.number("due_status", "its status is ", number(self.due), ""),
         }
@@ -304,15 +298,10 @@ impl ContentGap {
         }
     }
 
-    // Tells a 412 by a condition: of one that origins alone evaluate that the cache did, what was due, and what came.
-    fn tell_failed<T: Teller>(&self, condition: Condition, pair: Pair<'_>, teller: &mut T) {
-        if !condition.is_for_origins() {
-            self.say(teller);
-            teller.words("; ");
-            return condition.tell(", the stored response's ", pair, teller);
-        }
+    // Tells the condition that a cache evaluated which origins alone evaluate, what was due, and what came.
+    fn tell_evaluated<T: Teller>(&self, condition: Condition, pair: Pair<'_>, teller: &mut T) {
         teller.words("the cache evaluated ");
-        condition.tell(" against the stored response's ", pair, teller);
+        tell_condition(condition, " against the stored response's ", pair, teller);
         teller.count(", which it must not: due ", number(self.due), "");
         if let Some(bodies) = self.bodies {
             teller.count(" with ", bodies.due, " octets");

@@ -271,7 +271,7 @@ impl Differences {
             if !gap.is_form && !is_plain {
                 return false;
             }
-            has_form = has_form || gap.is_form;
+            has_form |= gap.is_form;
         }
         has_form && self.more == 0
     }
@@ -282,9 +282,9 @@ impl Differences {
         for gap in self.listed.iter() {
             let name = gap.name.as_slice();
             let has_renewed = origin.has_renewed(name);
-            has_date = has_date || (name == b"date".as_slice() && !has_renewed);
-            has_content = has_content || is_of_content(name);
-            is_renewed = is_renewed || has_renewed;
+            has_date |= name == b"date".as_slice() && !has_renewed;
+            has_content |= is_of_content(name);
+            is_renewed |= has_renewed;
         }
         if origin.is_undated() && has_date {
             return Demand::of(
@@ -378,18 +378,6 @@ impl Differences {
         said
     }
 
-    // Tells an object of each that is listed.
-    fn tell_listed<T: Teller>(&self, sides: Sides<'_>, teller: &mut T) {
-        teller.fact("more_fields", self.more);
-        teller.begin_list("fields");
-        for gap in self.listed.iter() {
-            teller.begin_item();
-            gap.tell(sides, teller);
-            teller.end();
-        }
-        teller.end();
-    }
-
     /// Tells what is due of each, and what the reply has: a text of the first of them, an object of all that are listed.
     pub fn tell<T: Teller>(
         &self,
@@ -398,13 +386,20 @@ impl Differences {
         teller: &mut T,
     ) {
         let sides = (claim, state, &origin);
-        if !teller.is_text() {
-            return self.tell_listed(sides, teller);
+        if teller.is_text() {
+            let said = self.tell_changed(Change::Dropped, sides, 0, teller);
+            let said = self.tell_changed(Change::Changed, sides, said, teller);
+            let said = self.tell_changed(Change::Added, sides, said, teller);
+            let unsaid = self.listed.len().saturating_sub(said) as u64;
+            return teller.say_more(self.more.saturating_add(unsaid));
         }
-        let said = self.tell_changed(Change::Dropped, sides, 0, teller);
-        let said = self.tell_changed(Change::Changed, sides, said, teller);
-        let said = self.tell_changed(Change::Added, sides, said, teller);
-        let unsaid = self.listed.len().saturating_sub(said) as u64;
-        teller.say_more(self.more.saturating_add(unsaid));
+        teller.fact("more_fields", self.more);
+        teller.begin_list("fields");
+        for gap in self.listed.iter() {
+            teller.begin_item();
+            gap.tell(sides, teller);
+            teller.end();
+        }
+        teller.end();
     }
 }

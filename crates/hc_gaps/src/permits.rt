@@ -150,7 +150,6 @@ impl StaleUse {
     pub fn tell<T: Teller>(&self, origin: AgeOrigin, teller: &mut T) {
         teller.words("no fault: ");
         self.usage.tell_age(origin, teller);
-        self.usage.say_staleness(teller);
         let (before, after) = self.permit.words();
         let seconds = self.permitted_seconds();
         let is_lent = matches!(self.permit, Permit::DefaultLifetime(_));

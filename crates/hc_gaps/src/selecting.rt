@@ -13,9 +13,6 @@ use hc_shown::{FieldOf, Page, RecordName, Teller};
 use hc_update::Stored;
 use std::alloc::{AllocError, Global};
 
-/// The name of the field that selects.
-const VARY: &[u8] = b"vary";
-
 /// A member of a Vary that doesn't select the request.
 #[derive(Drop)]
 pub struct UnmetMember {
@@ -55,7 +52,7 @@ pub fn unmet_members(
         unmet: Vec::new(alloc),
         more: 0,
     };
-    for member in state.fields.members(VARY) {
+    for member in state.fields.members(b"vary") {
         if is_met_or_normalized(alloc, claim, state, member)? {
             continue;
         }

@@ -245,7 +245,7 @@ const PAST: &str =
     "lifetime 0 (an Expires that is no date, or not later than the Date, is past: RFC 9111 section 5.3)";
 
 impl Usage {
-    /// Tells how old the response is, and its lifetime: the one that it states, or is given.
+    /// Tells how old the response is, its lifetime, which it states or is given, and by how much it is stale.
     pub(crate) fn tell_age<T: Teller>(&self, origin: AgeOrigin, teller: &mut T) {
         match self.lifetime {
             Some(0) if origin.is_by_expires => teller.words(PAST),
@@ -259,10 +259,6 @@ impl Usage {
         teller.number("age", ", age ", u64::from(self.age), "");
         self.parts.tell(origin, teller);
         teller.some("stale_by", seconds(self.stale_by));
-    }
-
-    /// Tells by how much the response is stale.
-    pub(crate) fn say_staleness<T: Teller>(&self, teller: &mut T) {
         match self.stale_by {
             Some(seconds) => teller.count(": stale by ", u64::from(seconds), ""),
             None => teller.words(": fresh"),
@@ -272,7 +268,6 @@ impl Usage {
     /// Tells why the response may not be used. It is told whether an error or a failure stands between request and reply.
     pub fn tell<T: Teller>(&self, had_error: bool, origin: AgeOrigin, teller: &mut T) {
         self.tell_age(origin, teller);
-        self.say_staleness(teller);
         say_slack(self.slack, " by --slack)", teller);
         teller.words("; ");
         teller.words(self.forbidden.words());
