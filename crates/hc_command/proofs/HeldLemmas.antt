@@ -8,8 +8,8 @@ use Rattle.hc_history.specs.declared.settings.Settings.{Settings}
 use Rattle.hc_history.specs.declared.verdicts.Verdict.{Verdict}
 use Rattle.hc_history.specs.declared.wrong.WrongReply.{WrongReply}
 use Rattle.hc_history.specs.Verdicts.{IsVerdict}
-use Rattle.hc_baseline.specs.declared.baseline.Baseline.{Baseline}
-use Rattle.hc_baseline.specs.Reports.{IsBaseline}
+use Rattle.hc_figures.specs.declared.baseline.Baseline.{Baseline}
+use Rattle.hc_figures.specs.Reports.{IsBaseline}
 use Rattle.hc_report.specs.declared.counting.CountingReport.{CountingReport}
 use Rattle.hc_report.specs.Counting.{HasCountedIn, HasHeardOf, TellsAllOf}
 use Rattle.hc_options.specs.declared.auditing.AuditTerms.{AuditTerms}

@@ -1,7 +1,7 @@
 -- Why there is no baseline.
 use Rattle.std.specs.Prelude.{ℕ, List, Option, IfSome}
 use Rattle.serde_json.specs.Data.{Data}
-use Rattle.hc_baseline.specs.Reports.{IsBaseline}
+use Rattle.hc_figures.specs.Reports.{IsBaseline}
 use Rattle.hc_command.specs.declared.baseline.BaselineTrouble.{BaselineTrouble}
 use Rattle.hc_command.specs.declared.baseline.BaselineTrouble.TheVariants as trouble
 

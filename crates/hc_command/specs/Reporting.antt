@@ -7,9 +7,9 @@ use Rattle.hc_history.specs.declared.verdicts.Verdict.{Verdict}
 use Rattle.hc_history.specs.declared.verdicts.Verdict.TheVariants.{Yes, Malformed}
 use Rattle.hc_history.specs.declared.wrong.WrongReply.{WrongReply}
 use Rattle.hc_history.specs.Verdicts.{IsVerdict}
-use Rattle.hc_baseline.specs.declared.baseline.Baseline.{Baseline}
-use Rattle.hc_baseline.specs.Kinds.{AreKnown}
-use Rattle.hc_baseline.specs.Tallies.{base_of, gone_from}
+use Rattle.hc_figures.specs.declared.baseline.Baseline.{Baseline}
+use Rattle.hc_figures.specs.Kinds.{AreKnown}
+use Rattle.hc_figures.specs.Tallies.{base_of, gone_from}
 use Rattle.hc_report.specs.declared.counting.CountingReport.{CountingReport}
 use Rattle.hc_report.specs.Counting.{HasCountedIn, HasHeardOf, TellsAllOf}
 use Rattle.hc_report.specs.Json.{WritesAll}

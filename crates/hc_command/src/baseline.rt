@@ -3,12 +3,12 @@
 ghost use Rattle.std.specs.Prelude.{◌≡◌, List, ℕ, IfErr, IfOk, IfSome};
 ghost use Rattle.serde_json.specs.Data.{Data};
 ghost use Rattle.serde_json.specs.View.{view};
-ghost use Rattle.hc_baseline.specs.Reports.{IsBaseline};
-ghost use Rattle.hc_baseline.specs.declared.fault.BaselineFault.{BaselineFault};
+ghost use Rattle.hc_figures.specs.Reports.{IsBaseline};
+ghost use Rattle.hc_figures.specs.declared.baseline.BaselineFault.{BaselineFault};
 ghost use Rattle.hc_command.specs.Baseline.{IsNoBaseline, status_without};
 
 use hc_auditing::{Trouble, all_of, printed};
-use hc_baseline::{Baseline, BaselineFault};
+use hc_figures::{Baseline, BaselineFault};
 use std::alloc::Global;
 use std::io::{Read, Write};
 

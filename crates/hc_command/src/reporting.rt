@@ -12,7 +12,7 @@ use crate::saying::said_first;
 use crate::surveying::{Outcome, Reading, surveyed};
 use hc_arguments::{AuditTerms, Minimums};
 use hc_auditing::{Trouble, ended, printed, verdict_line, verdict_status};
-use hc_baseline::Baseline;
+use hc_figures::Baseline;
 use hc_history::{Ending, Settings, Verdict};
 use hc_index::Index;
 use hc_report::{CountingReport, Report, other_setting};

@@ -28,7 +28,7 @@ use hc_arguments::{
 use hc_auditing::{
     Trouble, audited, input_name, input_of, opened, printed, shown, unread, words_of,
 };
-use hc_baseline::Baseline;
+use hc_figures::Baseline;
 use hc_history::Settings;
 use hc_shown::Span;
 use std::alloc::Global;

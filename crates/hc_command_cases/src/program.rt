@@ -5,11 +5,11 @@ use crate::devices::Pieces;
 use crate::written::Written;
 use hc_arguments::{Order, parsed};
 use hc_auditing::{audit, printed, shown};
-use hc_baseline::Baseline;
 use hc_cases::Unanswered;
 use hc_command::{
     BaselineTrouble, Beside, ReportForm, baseline_of, convert, explain, replay, report,
 };
+use hc_figures::Baseline;
 use hc_options::audit_asked;
 use std::alloc::Global;
 use std::io::Write;

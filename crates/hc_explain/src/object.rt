@@ -1,6 +1,5 @@
 //! What is told as a JSON object.
 
-use hc_head::Target;
 use hc_shown::{FieldOf, Page, Teller};
 use serde_json::{Map, Value, push, put};
 use std::alloc::{AllocError, Global};
@@ -60,13 +59,6 @@ impl Object {
             self.is_refused = true;
         }
     }
-
-    // Adds a value of that field as it is shown.
-    fn shown(&mut self, name: &'static str, field: &[u8], value: &[u8]) {
-        let mut page = self.page();
-        page.shown_value(field, value);
-        self.said(name, page);
-    }
 }
 
 // Adds a value to an object or a list.
@@ -109,10 +101,11 @@ impl Teller for Object {
     }
 
     fn known(&mut self, name: &'static str, field: FieldOf<'_>) {
-        match field.joined(self.alloc) {
-            Ok(Some(value)) => self.shown(name, field.name, value.as_slice()),
-            Ok(None) => self.some(name, None),
-            Err(_) => self.is_refused = true,
+        let mut page = self.page();
+        if page.joined(field) {
+            self.said(name, page);
+        } else {
+            self.some(name, None);
         }
     }
 
@@ -134,10 +127,6 @@ impl Teller for Object {
         self.begin_value(name, Value::Array(items));
     }
 
-    fn begin_item(&mut self) {
-        self.begin("");
-    }
-
     fn end(&mut self) {
         match self.begun.pop() {
             Some(Begun { name, value }) => self.add(name, Ok(value)),
@@ -149,12 +138,6 @@ impl Teller for Object {
         self.add(name, Ok(Value::from(number)));
     }
 
-    fn octets(&mut self, name: &'static str, _: &str, octets: &[u8]) {
-        let mut page = self.page();
-        page.said_octets("", octets, "");
-        self.said(name, page);
-    }
-
     fn quoted(&mut self, name: &'static str, octets: &[u8]) {
         self.octets(name, "", octets);
     }
@@ -162,14 +145,10 @@ impl Teller for Object {
     fn values(&mut self, name: &'static str, _: &str, field: FieldOf<'_>) {
         self.begin_list(name);
         for line in field.fields.values(field.name) {
-            self.shown("", field.name, line);
+            let mut page = self.page();
+            page.shown_value(field.name, line);
+            self.said("", page);
         }
         self.end();
-    }
-
-    fn target(&mut self, name: &'static str, target: &Target) {
-        let mut page = self.page();
-        page.target("", target);
-        self.said(name, page);
     }
 }

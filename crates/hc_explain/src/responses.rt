@@ -222,10 +222,20 @@ fn say_own<T: Teller>(end: &End, teller: &mut T) {
 fn tell_why<T: Teller>(known: &Explanation<'_>, why: &Why, teller: &mut T) {
     match (why, &known.nearest) {
         (Why::NoResponse(unstored), _) => tell_no_response(known, unstored, teller),
-        (Why::Response, Some(nearest)) => tell_response(known, nearest, teller),
+        (Why::Response, Some(nearest)) => {
+            say_validated(known, nearest, teller);
+            begin_sources(known, teller);
+            if let Some(shortfall) = &nearest.shortfall {
+                begin_rule(shortfall.rule().reason(), teller);
+            }
+            end_nearest(known, nearest, teller);
+        }
         (Why::NotForwarded(window), _) => tell_not_forwarded(known, window, teller),
         (Why::NotCollapsible, _) => tell_collapsing(known, teller),
-        (Why::Unmarked(mark), _) => tell_unmarked(known, *mark, teller),
+        (Why::Unmarked(mark), _) => {
+            teller.word("mark", mark.name());
+            say_marks(known, Reason::Unmarked, unmarked(*mark), teller);
+        }
         (Why::BothMarks, _) => say_marks(
             known,
             Reason::BothMarks,
@@ -263,15 +273,6 @@ fn end_failing<T: Teller>(known: &Explanation<'_>, nearest: &Nearest<'_>, teller
     teller.end();
 }
 
-fn tell_response<T: Teller>(known: &Explanation<'_>, nearest: &Nearest<'_>, teller: &mut T) {
-    say_validated(known, nearest, teller);
-    begin_sources(known, teller);
-    if let Some(shortfall) = &nearest.shortfall {
-        begin_rule(shortfall.rule().reason(), teller);
-    }
-    end_nearest(known, nearest, teller);
-}
-
 // Writes the line of the 304 after the request that validated the response which is named, where the reply is judged as
 // a hit all the same.
 fn say_validated<T: Teller>(known: &Explanation<'_>, nearest: &Nearest<'_>, teller: &mut T) {
@@ -305,15 +306,13 @@ fn tell_no_response<T: Teller>(known: &Explanation<'_>, unstored: &Unstored, tel
     }
 }
 
-// Tells what a mark comes to that says nothing of the reply.
-fn tell_unmarked<T: Teller>(known: &Explanation<'_>, mark: NoMark, teller: &mut T) {
-    teller.word("mark", mark.name());
-    let says = match mark {
+// What a Cache-Status says that is no mark.
+fn unmarked(mark: NoMark) -> &'static str {
+    match mark {
         NoMark::Absent => ": only an error may have no mark",
         NoMark::Partial => ": it says no forward, and a hit of status 206 counts as no mark",
         NoMark::Silent => " says neither hit nor fwd",
-    };
-    say_marks(known, Reason::Unmarked, says, teller);
+    }
 }
 
 fn say_marks<T: Teller>(known: &Explanation<'_>, reason: Reason, says: &str, teller: &mut T) {
@@ -493,5 +492,5 @@ fn say_differences<T: Teller>(known: &Explanation<'_>, teller: &mut T) {
     let mut named = teller.page();
     differences.name(&mut named);
     teller.words(", but for fields: ");
-    teller.say(named);
+    teller.said("", named);
 }

@@ -73,7 +73,9 @@ fn tell_reply<T: Teller>(known: &Explanation<'_>, teller: &mut T) {
     teller.moment(claim.moment);
     teller.fact("moment", claim.moment);
     teller.method("method", "  ", &claim.request.method, " ");
-    teller.target("target", claim.target);
+    let mut target = teller.page();
+    target.target(claim.target);
+    teller.said("target", target);
     teller.number("status", " -> ", u64::from(head.status.as_u16()), "");
     teller.number("octets", ", ", claim.reply.body.len() as u64, " octets, ");
     say_mark(known, teller);

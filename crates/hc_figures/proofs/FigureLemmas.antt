@@ -3,8 +3,8 @@ use Rattle.std.proofs.Common.{◌≡◌, ◌≤◌, ◌∙◌, ℕ, Bool, true, 
 use Rattle.serde_json.specs.Data.{Data, Members, depth, items_depth, members_depth, null, put, string}
 use Rattle.serde_json.specs.View.{items_of}
 use Rattle.serde_json.proofs.Views.{get_member-put_other}
-use Rattle.hc_json.specs.Entries.{object_with, some_data, with_all}
-use Rattle.hc_json.proofs.EntryLemmas.{all_depth, all_there, put_depth}
+use Rattle.hc_figures.specs.Entries.{object_with, some_data, with_all}
+use Rattle.hc_figures.proofs.EntryLemmas.{all_depth, all_there, put_depth}
 use Rattle.hc_history.specs.declared.verdicts.Counts.{Counts}
 use Rattle.hc_history.specs.declared.wrong.Ending.{Ending}
 use Rattle.hc_history.specs.declared.wrong.Ending.TheVariants.{Whole, Broken}

@@ -3,7 +3,7 @@ use Rattle.std.proofs.Common.{◌≡◌, ◌∙◌, ℕ, List, [], ◌∷◌, Op
 use Rattle.serde_json.specs.Data.{Data, Members, object}
 use Rattle.serde_json.specs.Find.{get}
 use Rattle.serde_json.specs.View.{items_of}
-use Rattle.hc_json.specs.Entries.{object_with}
+use Rattle.hc_figures.specs.Entries.{object_with}
 use Rattle.hc_history.specs.declared.verdicts.Counts.{Counts}
 use Rattle.hc_history.specs.declared.wrong.Ending.{Ending}
 use Rattle.hc_history.specs.declared.wrong.Ending.TheVariants.{Whole, Broken}

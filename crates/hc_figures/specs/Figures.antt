@@ -3,7 +3,7 @@ use Rattle.std.specs.Prelude.{◌≡◌, ◌≤◌, ◌||◌, ℕ, Bool, true, f
 use Rattle.std.specs.Str.{bytes_eq}
 use Rattle.serde_json.specs.Data.{Members, members_depth}
 use Rattle.serde_json.specs.Find.{get_member}
-use Rattle.hc_json.specs.Entries.{Entry, HaveAll, number_at, object_with, some_data}
+use Rattle.hc_figures.specs.Entries.{Entry, HaveAll, number_at, object_with, some_data}
 use Rattle.hc_history.specs.declared.verdicts.Counts.{Counts}
 use Rattle.hc_history.specs.declared.wrong.Ending.{Ending}
 use Rattle.hc_history.specs.declared.wrong.WrongReply.{WrongReply}

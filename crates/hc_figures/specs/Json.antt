@@ -2,7 +2,7 @@
 use Rattle.std.specs.Prelude.{ℕ, ◌-◌, true, false, List, [], ◌∷◌, ◌++◌, Option, None, Some, codes, if◌then◌else◌, length, map, string_bytes}
 use Rattle.serde_json.specs.Data.{Data, array, null, string}
 use Rattle.serde_json.specs.View.{items_of}
-use Rattle.hc_json.specs.Entries.{Entry, flag_at, number_at, object_with, text_at}
+use Rattle.hc_figures.specs.Entries.{Entry, flag_at, number_at, object_with, text_at}
 use Rattle.hc_transcript.specs.declared.fault.RecordFault.{RecordFault}
 use Rattle.hc_transcript.specs.Names.{fault_name, fault_number}
 use Rattle.hc_history.specs.declared.wrong.Ending.{Ending}

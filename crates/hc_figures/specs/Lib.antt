@@ -1,7 +1,14 @@
 pub mod Counts
+pub mod Entries
 pub mod Figures
 pub mod Json
+pub mod Kinds
 pub mod Listed
+pub mod Made
+pub mod Nesting
+pub mod Objects
 pub mod Reading
+pub mod Reports
 pub mod Requests
+pub mod Tallies
 pub mod Wrongs

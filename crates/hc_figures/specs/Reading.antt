@@ -2,7 +2,7 @@
 use Rattle.std.specs.Prelude.{◌≡◌, ◌-◌, ℕ, true, false, List, [], ◌∷◌, Option, None, Some, codes, length, option_and_then, option_map, string_bytes}
 use Rattle.serde_json.specs.Data.{Data, Items, no_items, item, array, boolean, string}
 use Rattle.serde_json.specs.Find.{get}
-use Rattle.hc_json.specs.Entries.{number_data, some_data}
+use Rattle.hc_figures.specs.Entries.{number_data, some_data}
 use Rattle.hc_transcript.specs.declared.fault.RecordFault.{RecordFault}
 use Rattle.hc_transcript.specs.Names.{fault_name, fault_number}
 use Rattle.hc_history.specs.declared.verdicts.Counts.{Counts}

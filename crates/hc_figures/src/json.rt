@@ -3,15 +3,15 @@
 ghost use Rattle.std.specs.Prelude.{◌≡◌, IfOk, map};
 ghost use Rattle.serde_json.specs.Data.{Members, array as array_data};
 ghost use Rattle.serde_json.specs.View.{items_of, view};
-ghost use Rattle.hc_json.specs.Entries.{object_with, with_all};
-ghost use Rattle.hc_json.specs.Objects.{Has};
+ghost use Rattle.hc_figures.specs.Entries.{object_with, with_all};
+ghost use Rattle.hc_figures.specs.Objects.{Has};
 ghost use Rattle.hc_figures.specs.Figures.{figure_entries};
 ghost use Rattle.hc_figures.specs.Json.{break_entries, end_entries, listed_data, octet_entries, reply_entries, verdict_entries, warning_data, wrong_entries, wrongs_entries};
 
 use crate::counts::ReplyCounts;
 use crate::listed::{ListedReplies, ListedReply};
+use crate::members::{Array, Object};
 use hc_history::{Counts, Ending, WrongReply};
-use hc_json::{Array, Object};
 use hc_transcript::RecordFault;
 use serde_json::Value;
 use std::alloc::{AllocError, Global};
@@ -52,23 +52,21 @@ fn verdict_json(
     ensures { IfOk result (λ v. view v ≡ object_with (verdict_entries first ending)) }
 {
     let mut verdict = Object::new(alloc);
-    put_verdict(first, ending, &mut verdict);
-    verdict.into_value()
-}
-
-fn put_verdict(first: Option<WrongReply>, ending: Ending, verdict: &mut Object)
-    ensures { (all : Members) → Has verdict.old all → Has verdict.new (with_all (verdict_entries first ending) all) }
-{
     match (first, ending) {
         (Some(wrong), _) => {
             verdict.text("answer", "no");
-            put_wrong(wrong, verdict);
+            put_wrong(wrong, &mut verdict);
+            verdict.into_value()
         }
         (None, Ending::Broken(position, fault)) => {
             verdict.text("answer", "malformed");
-            put_break(position, fault, verdict);
+            put_break(position, fault, &mut verdict);
+            verdict.into_value()
         }
-        (None, Ending::Whole) => verdict.text("answer", "yes"),
+        (None, Ending::Whole) => {
+            verdict.text("answer", "yes");
+            verdict.into_value()
+        }
     }
 }
 
@@ -76,18 +74,15 @@ fn ends_json(alloc: Global, ending: Ending) -> Result<Value, AllocError>
     ensures { IfOk result (λ v. view v ≡ object_with (end_entries ending)) }
 {
     let mut end = Object::new(alloc);
-    put_end(ending, &mut end);
-    end.into_value()
-}
-
-fn put_end(ending: Ending, end: &mut Object)
-    ensures { (all : Members) → Has end.old all → Has end.new (with_all (end_entries ending) all) }
-{
     match ending {
-        Ending::Whole => end.flag("whole", true),
+        Ending::Whole => {
+            end.flag("whole", true);
+            end.into_value()
+        }
         Ending::Broken(position, fault) => {
             end.flag("whole", false);
-            put_break(position, fault, end);
+            put_break(position, fault, &mut end);
+            end.into_value()
         }
     }
 }

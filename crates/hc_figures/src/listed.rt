@@ -107,13 +107,6 @@ impl ShownRequest {
         })
     }
 
-    /// Its target.
-    pub fn into_target(self) -> String
-        ensures { result ≡ self.target }
-    {
-        self.target
-    }
-
     /// The kind of a reply to it that is wrong by that reason.
     pub fn kind(&self, alloc: Global, reason: Reason) -> Result<String, AllocError>
         ensures { IfOk result (λ kind. string_bytes kind ≡ kind_text reason (string_bytes self.now.method) (string_bytes self.now.target)) }

@@ -10,12 +10,12 @@ use Rattle.serde_json.proofs.Views.{get_member-put, get_member-put_other}
 use Rattle.hc_history.specs.declared.settings.Settings.{Settings}
 use Rattle.hc_history.specs.declared.verdicts.Counts.{Counts}
 use Rattle.hc_history.specs.declared.wrong.Ending.{Ending}
-use Rattle.hc_json.specs.Entries.{number_at, number_data, object_with, some_data}
-use Rattle.hc_json.specs.Nesting.{NestsTo}
-use Rattle.hc_json.proofs.EntryLemmas.{all_depth, all_there}
-use Rattle.hc_baseline.specs.declared.baseline.Baseline.{Baseline}
-use Rattle.hc_baseline.specs.Kinds.{Kind}
-use Rattle.hc_baseline.specs.Tallies.{CountsKinds}
+use Rattle.hc_figures.specs.Entries.{number_at, number_data, object_with, some_data}
+use Rattle.hc_figures.specs.Nesting.{NestsTo}
+use Rattle.hc_figures.proofs.EntryLemmas.{all_depth, all_there}
+use Rattle.hc_figures.specs.declared.baseline.Baseline.{Baseline}
+use Rattle.hc_figures.specs.Kinds.{Kind}
+use Rattle.hc_figures.specs.Tallies.{CountsKinds}
 use Rattle.hc_figures.specs.declared.counts.ReplyCounts.{ReplyCounts}
 use Rattle.hc_figures.specs.declared.listed.ListedReplies.{ListedReplies}
 use Rattle.hc_figures.specs.Figures.{HaveFigures, LeavesFigures, deepest, is_figure}

@@ -12,9 +12,9 @@ use Rattle.hc_history.specs.WrongReplies.{wrong_after}
 use Rattle.hc_audit.specs.Told.{wrong_of}
 use Rattle.hc_shown.specs.Octets.{octets_text}
 use Rattle.hc_shown.specs.Values.{target_text}
-use Rattle.hc_baseline.specs.Kinds.{Kind}
-use Rattle.hc_baseline.specs.Tallies.{HasCounted}
-use Rattle.hc_baseline.specs.declared.tally.Tally.{Tally}
+use Rattle.hc_figures.specs.Kinds.{Kind}
+use Rattle.hc_figures.specs.Tallies.{HasCounted}
+use Rattle.hc_figures.specs.declared.tally.Tally.{Tally}
 use Rattle.hc_report.specs.Counting.{HasCountedIn, StandUpTo, TellsAllOf}
 use Rattle.hc_report.specs.declared.counting.CountingReport.{CountingReport}
 use Rattle.hc_report.specs.declared.report.Report.{Report}

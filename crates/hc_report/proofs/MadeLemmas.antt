@@ -2,7 +2,7 @@
 use Rattle.std.proofs.Common.{◌≡◌, ◌==◌, ◌<◌, ◌+◌, ◌++◌, ◌∙◌, ℕ, zero, suc, true, false, List, [], ◌∷◌, add-one, ap, get_or, length, take, refl, arith}
 use Rattle.std.proofs.lemmas.Bool.Decides.{nat_tests}
 use Rattle.serde_json.specs.Data.{Members, null, put}
-use Rattle.hc_json.specs.Entries.{with_all}
+use Rattle.hc_figures.specs.Entries.{with_all}
 use Rattle.hc_shown.specs.Octets.{octets_text}
 use Rattle.hc_report.specs.Made.{name_entries, with_name}
 

@@ -4,8 +4,8 @@ use Rattle.hc_transcript.specs.Items.{Item}
 use Rattle.hc_history.specs.declared.wrong.WrongReply.{WrongReply}
 use Rattle.serde_json.specs.Data.{Members}
 use Rattle.serde_json.specs.Find.{as_object, get_member}
-use Rattle.hc_baseline.specs.Kinds.{Kind}
-use Rattle.hc_baseline.specs.Tallies.{AreCounts, HasCounted}
+use Rattle.hc_figures.specs.Kinds.{Kind}
+use Rattle.hc_figures.specs.Tallies.{AreCounts, HasCounted}
 use Rattle.hc_report.specs.declared.counting.CountingReport.{CountingReport}
 use Rattle.hc_report.specs.Kinds.{AreShownIn, kinds_in}
 use Rattle.hc_report.specs.Told.{TellsOf}

@@ -3,11 +3,11 @@ use Rattle.std.specs.Prelude.{◌≡◌, ◌-◌, ◌^◌, ℕ, Option, None, So
 use Rattle.serde_json.specs.Data.{Members}
 use Rattle.serde_json.specs.Find.{get, get_member}
 use Rattle.serde_json.specs.View.{members_view, view}
-use Rattle.hc_json.specs.Entries.{number_data}
-use Rattle.hc_baseline.specs.declared.baseline.Baseline.{Baseline}
-use Rattle.hc_baseline.specs.declared.tally.Tally.{Tally}
-use Rattle.hc_baseline.specs.Reports.{count_under, gone_in, known_of}
-use Rattle.hc_baseline.specs.Tallies.{base_of}
+use Rattle.hc_figures.specs.Entries.{number_data}
+use Rattle.hc_figures.specs.declared.baseline.Baseline.{Baseline}
+use Rattle.hc_figures.specs.declared.tally.Tally.{Tally}
+use Rattle.hc_figures.specs.Reports.{count_under, gone_in, known_of}
+use Rattle.hc_figures.specs.Tallies.{base_of}
 use Rattle.hc_report.specs.declared.counting.CountingReport.{CountingReport}
 
 -- how many the baseline has of those that were counted

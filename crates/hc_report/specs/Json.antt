@@ -8,8 +8,8 @@ use Rattle.hc_history.specs.declared.wrong.Ending.{Ending}
 use Rattle.hc_figures.specs.declared.counts.ReplyCounts.{ReplyCounts}
 use Rattle.hc_figures.specs.declared.listed.ListedReplies.{ListedReplies}
 use Rattle.hc_figures.specs.Reading.{IsReportIn}
-use Rattle.hc_baseline.specs.declared.baseline.Baseline.{Baseline}
-use Rattle.hc_baseline.specs.Kinds.{Kind}
+use Rattle.hc_figures.specs.declared.baseline.Baseline.{Baseline}
+use Rattle.hc_figures.specs.Kinds.{Kind}
 use Rattle.hc_report.specs.declared.counting.CountingReport.{CountingReport}
 use Rattle.hc_report.specs.Counting.{HaveCounts}
 use Rattle.hc_report.specs.Held.{SayHeldBy}

@@ -6,7 +6,7 @@ use Rattle.hc_history.specs.declared.wrong.WrongReply.{WrongReply}
 use Rattle.hc_why.specs.Standing.{exchange_at}
 use Rattle.hc_shown.specs.Octets.{octets_text}
 use Rattle.hc_shown.specs.Values.{target_text}
-use Rattle.hc_baseline.specs.Kinds.{Kind}
+use Rattle.hc_figures.specs.Kinds.{Kind}
 use Rattle.hc_figures.specs.declared.listed.ListedReply.{ListedReply}
 use Rattle.hc_figures.specs.declared.listed.ShownRequest.{ShownRequest}
 use Rattle.hc_figures.specs.Requests.{kind_text}

@@ -3,9 +3,9 @@ use Rattle.std.specs.Prelude.{◌≡◌, ℕ, Bool, true, false, List, [], ◌�
 use Rattle.serde_json.specs.Data.{Members, no_members, member, null, object}
 use Rattle.serde_json.specs.Find.{get_member}
 use Rattle.serde_json.specs.View.{view}
-use Rattle.hc_json.specs.Entries.{Entry, flag_at, number_at, some_data, text_at, with_all}
-use Rattle.hc_baseline.specs.declared.baseline.Baseline.{Baseline}
-use Rattle.hc_baseline.specs.Made.{is_made_by}
+use Rattle.hc_figures.specs.Entries.{Entry, flag_at, number_at, some_data, text_at, with_all}
+use Rattle.hc_figures.specs.declared.baseline.Baseline.{Baseline}
+use Rattle.hc_figures.specs.Made.{is_made_by}
 use Rattle.hc_shown.specs.Octets.{octets_text}
 use Rattle.hc_history.specs.declared.allowed.Allowed.{Allowed}
 use Rattle.hc_history.specs.declared.settings.Settings.{Settings}

@@ -2,8 +2,7 @@
 //! of GitHub's workflows, a line each.
 
 use crate::made::shown;
-use hc_baseline::{Baseline, Tally};
-use hc_figures::{ListedReply, ShownRequest};
+use hc_figures::{Baseline, ListedReply, ShownRequest, Tally};
 use hc_history::{Ending, WrongReply};
 use hc_shown::{Page, Teller};
 use std::alloc::{AllocError, Global};
@@ -11,12 +10,23 @@ use std::alloc::{AllocError, Global};
 /// How many wrong replies are annotated at most.
 const MOST_ANNOTATED: u64 = 1_000;
 
-/// How many wrong replies there are, and how many of them a baseline has.
-#[derive(Clone, Copy)]
-pub(crate) struct CaseCounts {
-    pub(crate) wrong: u64,
-    pub(crate) known: u64,
-}
+/// What would be markup in a text, and the entities for it.
+const ENTITIES: [(char, &str); 5] = [
+    ('&', "&amp;"),
+    ('<', "&lt;"),
+    ('>', "&gt;"),
+    ('"', "&quot;"),
+    ('\'', "&apos;"),
+];
+
+/// What would end the value of a property, and what stands for it. All but the last two would end a message, too.
+const ENDS: [(char, &str); 5] = [
+    ('%', "%25"),
+    ('\r', "%0D"),
+    ('\n', "%0A"),
+    (':', "%3A"),
+    (',', "%2C"),
+];
 
 /// The wrong replies as cases of a test, if they are asked for: each with what is shown of the request that it answers.
 #[derive(Drop)]
@@ -48,30 +58,35 @@ impl Cases {
         Ok(())
     }
 
-    /// Writes them as a suite of so many cases, for a recording of that name that ends so. A case is skipped if the baseline
-    /// has it.
+    /// Writes them as a suite, for a recording of that name that ends so. A case is skipped if the baseline has it, which has
+    /// so many of them.
     pub(crate) fn say_suite(
         &self,
         name: &str,
-        counts: CaseCounts,
+        known: u64,
         baseline: Option<&Baseline>,
         ending: Ending,
         page: &mut Page,
     ) -> Result<(), AllocError> {
         let broken = u64::from(ending != Ending::Whole);
-        let cases = counts.wrong.saturating_add(broken).max(1);
-        let new = counts.wrong.saturating_sub(counts.known);
-        page.text("<?xml version=\"1.0\" encoding=\"UTF-8\"?>\n<testsuites>\n<testsuite name=\"");
-        say_xml(shown(self.alloc, name.as_bytes())?.as_str(), page);
+        let wrong = self.replies.len() as u64;
+        let cases = wrong.saturating_add(broken).max(1);
+        let failures = wrong.saturating_sub(known).saturating_add(broken);
+        page.words("<?xml version=\"1.0\" encoding=\"UTF-8\"?>\n<testsuites>\n<testsuite name=\"");
+        say_escaped(
+            shown(self.alloc, name.as_bytes())?.as_str(),
+            &ENTITIES,
+            page,
+        );
         page.count("\" tests=\"", cases, "");
-        page.count("\" failures=\"", new.saturating_add(broken), "");
-        page.count("\" errors=\"0\" skipped=\"", counts.known, "\">\n");
+        page.count("\" failures=\"", failures, "");
+        page.count("\" errors=\"0\" skipped=\"", known, "\">\n");
         let mut told = Tally::new(self.alloc);
         for reply in self.replies.iter() {
             let is_known = self.is_known(baseline, reply, &mut told)?;
             say_case(reply, is_known, page);
         }
-        say_end(counts, ending, page);
+        say_end(wrong == 0, ending, page);
         Ok(())
     }
 
@@ -115,12 +130,12 @@ impl Cases {
 }
 
 fn say_case(reply: &ListedReply, is_known: bool, page: &mut Page) {
-    page.text("<testcase classname=\"");
-    say_xml(reply.wrong.reason.name(), page);
-    page.text("\" name=\"");
-    say_xml(reply.request.method.as_str(), page);
-    page.text(" ");
-    say_xml(reply.request.target.as_str(), page);
+    page.words("<testcase classname=\"");
+    say_escaped(reply.wrong.reason.name(), &ENTITIES, page);
+    page.words("\" name=\"");
+    say_escaped(reply.request.method.as_str(), &ENTITIES, page);
+    page.words(" ");
+    say_escaped(reply.request.target.as_str(), &ENTITIES, page);
     let what = if is_known {
         "\"><skipped message=\"in the baseline, at "
     } else {
@@ -130,46 +145,49 @@ fn say_case(reply: &ListedReply, is_known: bool, page: &mut Page) {
 }
 
 // Ends the suite: where the recording breaks, by the case of that, and where there is no other case, by one that is right.
-fn say_end(counts: CaseCounts, ending: Ending, page: &mut Page) {
+fn say_end(is_empty: bool, ending: Ending, page: &mut Page) {
     match ending {
         Ending::Broken(position, fault) => {
-            page.text("<testcase classname=\"");
-            say_xml(fault.name(), page);
+            page.words("<testcase classname=\"");
+            say_escaped(fault.name(), &ENTITIES, page);
             let what = "\" name=\"the recording\"><failure message=\"malformed, at ";
             page.count(what, position, "\"/></testcase>\n");
         }
-        Ending::Whole if counts.wrong == 0 => {
-            page.text("<testcase classname=\"hcache\" name=\"every reply is right\"/>\n");
+        Ending::Whole if is_empty => {
+            page.words("<testcase classname=\"hcache\" name=\"every reply is right\"/>\n");
         }
         Ending::Whole => {}
     }
-    page.text("</testsuite>\n</testsuites>\n");
+    page.words("</testsuite>\n</testsuites>\n");
 }
 
-// Writes a text, with entities in place of what would be markup.
-fn say_xml(text: &str, page: &mut Page) {
+// Writes a text, with what stands for a character in place of each that the table has.
+fn say_escaped(text: &str, table: &[(char, &str)], page: &mut Page) {
     for character in text.chars() {
-        match character {
-            '&' => page.text("&amp;"),
-            '<' => page.text("&lt;"),
-            '>' => page.text("&gt;"),
-            '"' => page.text("&quot;"),
-            '\'' => page.text("&apos;"),
-            other => say_character(other, page),
+        match stand_in(character, table) {
+            Some(word) => page.words(word),
+            None => {
+                let mut octets = [0_u8; 4];
+                page.words(character.encode_utf8(&mut octets));
+            }
         }
     }
 }
 
-fn say_character(character: char, page: &mut Page) {
-    let mut octets = [0_u8; 4];
-    page.text(character.encode_utf8(&mut octets));
+fn stand_in<'a>(character: char, table: &[(char, &'a str)]) -> Option<&'a str> {
+    for (known, word) in table {
+        if *known == character {
+            return Some(word);
+        }
+    }
+    None
 }
 
 fn annotate_one(file: &str, reply: &ListedReply, page: &mut Page) {
     begin_annotation(file, reply.wrong.reason.name(), page);
-    say_message(reply.request.method.as_str(), page);
-    page.text(" ");
-    say_message(reply.request.target.as_str(), page);
+    say_escaped(reply.request.method.as_str(), &ENDS[..3], page);
+    page.words(" ");
+    say_escaped(reply.request.target.as_str(), &ENDS[..3], page);
     page.count(" at ", reply.wrong.position, "\n");
 }
 
@@ -187,36 +205,9 @@ fn annotate_rest(more: u64, file: &str, ending: Ending, page: &mut Page) {
 
 // Writes what stands before a message: the command with its properties.
 fn begin_annotation(file: &str, title: &str, page: &mut Page) {
-    page.text("::error file=");
-    say_property(file, page);
-    page.text(",title=");
-    say_property(title, page);
-    page.text("::");
-}
-
-// Writes the value of a property, in which a colon or a comma would end it.
-fn say_property(text: &str, page: &mut Page) {
-    for character in text.chars() {
-        match character {
-            ':' => page.text("%3A"),
-            ',' => page.text("%2C"),
-            other => say_in_line(other, page),
-        }
-    }
-}
-
-fn say_message(text: &str, page: &mut Page) {
-    for character in text.chars() {
-        say_in_line(character, page);
-    }
-}
-
-// Writes a character, with what stands for it where it would end the command.
-fn say_in_line(character: char, page: &mut Page) {
-    match character {
-        '%' => page.text("%25"),
-        '\r' => page.text("%0D"),
-        '\n' => page.text("%0A"),
-        other => say_character(other, page),
-    }
+    page.words("::error file=");
+    say_escaped(file, &ENDS, page);
+    page.words(",title=");
+    say_escaped(title, &ENDS, page);
+    page.words("::");
 }

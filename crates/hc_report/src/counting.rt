@@ -4,26 +4,25 @@ ghost use Rattle.std.specs.Prelude.{◌≡◌, ◌++◌, List, [], ◌∷◌, If
 ghost use Rattle.hc_transcript.specs.Items.{Item};
 ghost use Rattle.hc_history.specs.declared.wrong.WrongReply.{WrongReply};
 ghost use Rattle.hc_audit.specs.Hearing.{IsReplyBehind, item_judged};
-ghost use Rattle.hc_baseline.specs.Kinds.{AreKnown};
-ghost use Rattle.hc_baseline.specs.Tallies.{base_of, gone_from};
+ghost use Rattle.hc_figures.specs.Kinds.{AreKnown};
+ghost use Rattle.hc_figures.specs.Tallies.{base_of, gone_from};
 ghost use Rattle.serde_json.specs.Data.{Members};
-ghost use Rattle.hc_json.specs.Objects.{Has};
+ghost use Rattle.hc_figures.specs.Objects.{Has};
 ghost use Rattle.hc_figures.specs.Figures.{LeavesFigures};
 ghost use Rattle.hc_report.specs.Held.{SayHeldBy};
 ghost use Rattle.hc_report.specs.Json.{WritesAll};
 ghost use Rattle.hc_report.specs.Counting.{HasCountedIn, HasHeardOf, TellsAllOf};
 ghost use Rattle.hc_report.specs.Kinds.{kinds_in};
 
-use crate::cases::{CaseCounts, Cases};
+use crate::cases::Cases;
 use crate::json::{new_json, put_all};
 use crate::made::settings_object;
 use crate::report::{Report, shown_request};
 use crate::source::Source;
 use hc_audit::{JudgedReply, PassedRecord, Witness};
-use hc_baseline::{Baseline, NamedKinds, Tally};
+use hc_figures::{Baseline, NamedKinds, Object, Tally};
 use hc_history::{Counts, Ending, Finding, Reason, Settings, WrongReply};
 use hc_index::Index;
-use hc_json::Object;
 use hc_shown::{Page, Teller};
 use std::alloc::{AllocError, Global};
 
@@ -147,7 +146,7 @@ impl CountingReport {
         page.count("gone       ", baseline.gone(&self.tally), "\n");
         say_kinds(&gone_kinds, " more kinds have fewer\n", &mut page);
         if self.source.is_other_than(baseline)? {
-            page.text("targets    not the same as in the baseline\n");
+            page.words("targets    not the same as in the baseline\n");
         }
         page.onto(out)
     }
@@ -209,11 +208,9 @@ impl CountingReport {
             Some(baseline) => baseline.known(&self.tally),
             None => 0,
         };
-        let wrong = self.wrongs.len() as u64;
-        let counts = CaseCounts { wrong, known };
         let mut page = Page::new(self.alloc);
         self.cases
-            .say_suite(name, counts, baseline, ending, &mut page)?;
+            .say_suite(name, known, baseline, ending, &mut page)?;
         page.onto(out)
     }
 
@@ -235,8 +232,8 @@ impl CountingReport {
 fn say_kinds(kinds: &NamedKinds, more: &str, page: &mut Page) {
     for kind in kinds.named.iter() {
         page.column(kind.count, " ");
-        page.text(kind.kind.as_str());
-        page.end_line();
+        page.words(kind.kind.as_str());
+        page.words("\n");
     }
     if kinds.more != 0 {
         page.column(kinds.more, more);

@@ -139,7 +139,7 @@ impl Group {
 
     /// Writes what is wrong in its replies, and by how much.
     pub(crate) fn say_what(&self, page: &mut Page) {
-        page.text(self.what.as_str());
+        page.words(self.what.as_str());
         let Some(spread) = self.spread else {
             return;
         };
@@ -147,7 +147,7 @@ impl Group {
         if spread.least != spread.greatest {
             page.count(" to ", spread.greatest, "");
         }
-        page.text(" s");
+        page.words(" s");
     }
 }
 
@@ -201,12 +201,6 @@ pub(crate) struct Found {
     pub(crate) suspects: Firsts<Suspect>,
     /// What could be let pass so that fewer are wrong.
     pub(crate) tries: Tries,
-}
-
-impl Suspect {
-    fn meet(&mut self) {
-        self.count = self.count.saturating_add(1);
-    }
 }
 
 // The place of a field among those that are suspected, or after all of them.
@@ -266,7 +260,8 @@ impl Found {
         claim: &ReplyClaim<'a>,
         past: &'a Past,
     ) -> Result<Wrong<'a>, AllocError> {
-        let candidates = if names_response(reason) {
+        let may_carry = names_response(reason);
+        let candidates = if may_carry {
             judged.candidates()?
         } else {
             Vec::new(self.alloc)
@@ -276,7 +271,7 @@ impl Found {
         let case = WrongCase {
             reason,
             candidates: listed,
-            asks_part: claim.request.fields.contains(b"range"),
+            asks_part: may_carry && claim.request.fields.contains(b"range"),
         };
         self.tries.judge(judged, case, &wrong)?;
         Ok(wrong)
@@ -303,7 +298,8 @@ fn add_suspect(
 ) -> Result<(), AllocError> {
     let place = suspect_of(suspects.kept.as_slice(), gap);
     if place < suspects.kept.len() {
-        suspects.kept[place].meet();
+        let known = &mut suspects.kept[place];
+        known.count = known.count.saturating_add(1);
         return Ok(());
     }
     suspects.note(Suspect {

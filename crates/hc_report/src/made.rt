@@ -3,14 +3,13 @@
 ghost use Rattle.std.specs.Prelude.{◌≡◌, [], IfOk, OnOk, is_some, not, string_bytes};
 ghost use Rattle.serde_json.specs.Data.{string};
 ghost use Rattle.serde_json.specs.View.{members_view, view};
-ghost use Rattle.hc_json.specs.Objects.{Has};
+ghost use Rattle.hc_figures.specs.Objects.{Has};
 ghost use Rattle.hc_shown.specs.Octets.{octets_text};
 ghost use Rattle.hc_report.specs.Made.{in_order, is_errors_only, joined, made_by, names_text, settings_members, with_name};
 
-use hc_baseline::Baseline;
 use hc_fields::Octets;
+use hc_figures::{Baseline, Difference, Object};
 use hc_history::{FieldNames, Settings, UnmarkedReplies};
-use hc_json::Object;
 use hc_shown::{SHOWN, push_octets};
 use serde_json::{Map, Value};
 use std::alloc::{AllocError, Global};
@@ -25,26 +24,21 @@ pub fn other_setting(
     ensures { IfOk result (λ line. is_some line ≡ not (made_by baseline.now settings.now)) }
 {
     let asked = settings_object(alloc, settings).into_members()?;
-    if baseline.is_made_by(&asked) {
-        return Ok(None);
+    match baseline.difference(&asked) {
+        Some(difference) => Ok(Some(difference_line(alloc, difference)?)),
+        None => Ok(None),
     }
-    Ok(Some(difference_line(alloc, baseline, &asked)?))
 }
 
-fn difference_line(
-    alloc: Global,
-    baseline: &Baseline,
-    asked: &Map<String, Value>,
-) -> Result<String, AllocError> {
-    let Some(difference) = baseline.difference(alloc, asked)? else {
-        return String::from_str(alloc, "error: baseline\n");
-    };
-    let name = difference.name.as_str();
-    let asked = difference.asked.as_str();
-    if difference.had.is_empty() {
+fn difference_line(alloc: Global, difference: Difference<'_>) -> Result<String, AllocError> {
+    let name = difference.name;
+    let asked = difference.asked.to_string(alloc)?;
+    let asked = asked.as_str();
+    let Some(had) = difference.had else {
         return format!(in alloc; "error: baseline: it says no {name}, and {asked} is asked\n");
-    }
-    let had = plain(difference.had.as_str());
+    };
+    let had = had.to_string(alloc)?;
+    let had = plain(had.as_str());
     format!(in alloc; "error: baseline: its {name} is {had}, and {asked} is asked\n")
 }
 

@@ -17,10 +17,9 @@ use crate::json::put_all;
 use crate::made::shown;
 use crate::text::say_report;
 use hc_audit::{JudgedReply, PassedRecord, Witness};
-use hc_figures::{ListedReplies, ReplyCounts, ShownRequest};
+use hc_figures::{ListedReplies, Object, ReplyCounts, ShownRequest};
 use hc_history::{Counts, Ending, Finding, Reason, ReplyClaim, Settings, WrongReply};
 use hc_index::Index;
-use hc_json::Object;
 use hc_shown::{Page, push_target};
 use hc_why::Past;
 use std::alloc::{AllocError, Global};
@@ -101,8 +100,7 @@ impl Report {
         let wrong = WrongReply { position, reason };
         let request = shown_request(self.alloc, judged)?;
         self.wrongs.note(wrong, &request)?;
-        self.found
-            .take(judged, reason, request.into_target(), &self.past)
+        self.found.take(judged, reason, request.target, &self.past)
     }
 
     /// The first wrong reply.

@@ -1,12 +1,11 @@
 //! Of which recording a report is: in which format, and with which targets.
 
 ghost use Rattle.std.specs.Prelude.{ℕ, IfOk};
-ghost use Rattle.hc_json.specs.Nesting.{NestsTo};
+ghost use Rattle.hc_figures.specs.Nesting.{NestsTo};
 
 use hc_audit::JudgedReply;
-use hc_baseline::Baseline;
+use hc_figures::{Baseline, Object};
 use hc_index::Index;
-use hc_json::Object;
 use hc_shown::push_target;
 use hc_transcript::Format;
 use serde_json::Value;

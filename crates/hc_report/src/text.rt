@@ -25,8 +25,8 @@ pub(crate) fn say_report(
     if let Ending::Broken(position, fault) = ending {
         page.count("ends       at ", position, ", which is malformed: ");
         page.count("", u64::from(fault.number()), " ");
-        page.text(fault.name());
-        page.end_line();
+        page.words(fault.name());
+        page.words("\n");
     }
     say_replies(&report.replies, page);
     page.count("wrong      ", report.wrongs.count, " of ");
@@ -55,9 +55,9 @@ fn say_replies(replies: &ReplyCounts, page: &mut Page) {
         page.count("unjudged   ", replies.unjudged, after);
     }
     if replies.has_no_mark() {
-        page.text("warning: ");
-        page.text(NO_MARK);
-        page.end_line();
+        page.words("warning: ");
+        page.words(NO_MARK);
+        page.words("\n");
     }
 }
 
@@ -69,7 +69,7 @@ fn say_part(part: u64, all: u64, what: &str, page: &mut Page) {
         page.count(" (", thousandths / 10, ".");
         page.count("", thousandths % 10, "%)");
     }
-    page.text(", ");
+    page.words(", ");
 }
 
 // Writes what is wrong in the wrong replies, and what could be let pass so that fewer are.
@@ -90,10 +90,10 @@ fn say_suspects(suspects: &Firsts<Suspect>, page: &mut Page) {
     if suspects.kept.is_empty() {
         return;
     }
-    page.text("suspected faults, in how many of these replies\n");
+    page.words("suspected faults, in how many of these replies\n");
     for suspect in suspects.kept.iter() {
-        page.text("  ");
-        page.text(suspect.change.word());
+        page.words("  ");
+        page.words(suspect.change.word());
         page.said_octets(" ", suspect.name.as_slice(), "");
         page.count(": ", suspect.count, "\n");
     }
@@ -106,10 +106,10 @@ fn say_tries(wrong: u64, helpful: &[Helpful], page: &mut Page) {
     if helpful.is_empty() {
         return;
     }
-    page.text("to try, judged again\n");
+    page.words("to try, judged again\n");
     for one in helpful {
-        page.text("  ");
-        page.text(one.options.as_str());
+        page.words("  ");
+        page.words(one.options.as_str());
         let to = if one.is_exact { " to " } else { " to at most " };
         page.count(": ", wrong, to);
         page.count("", one.wrong, "\n");
@@ -127,11 +127,11 @@ fn say_groups(alloc: Global, groups: &Firsts<Group>, page: &mut Page) {
     let mut measured = Page::new(alloc);
     let widths = widths_of(groups.kept.as_slice(), &mut measured);
     page.take_refusal(&measured);
-    page.text("\n   count    first  ");
+    page.words("\n   count    first  ");
     page.padded("reason", widths.reason);
-    page.text("  ");
+    page.words("  ");
     page.padded("what", widths.what);
-    page.text("  first target\n");
+    page.words("  first target\n");
     for group in groups.kept.iter() {
         say_group(group, widths, page);
     }
@@ -147,7 +147,7 @@ fn widths_of(groups: &[Group], page: &mut Page) -> Widths {
     for group in groups {
         let begun = page.columns();
         page.count("", u64::from(group.reason.number()), " ");
-        page.text(group.reason.name());
+        page.words(group.reason.name());
         let between = page.columns();
         group.say_what(page);
         let reason = between.saturating_sub(begun);
@@ -163,15 +163,15 @@ fn say_group(group: &Group, widths: Widths, page: &mut Page) {
     page.column(group.first, "  ");
     let begun = page.columns();
     page.count("", u64::from(group.reason.number()), " ");
-    page.text(group.reason.name());
+    page.words(group.reason.name());
     page.pad(begun, widths.reason);
-    page.text("  ");
+    page.words("  ");
     let begun = page.columns();
     group.say_what(page);
     page.pad(begun, widths.what);
-    page.text("  ");
+    page.words("  ");
     say_targets(&group.targets, page);
-    page.end_line();
+    page.words("\n");
 }
 
 // Writes the first target, and how many more there are.
@@ -179,7 +179,7 @@ fn say_targets(targets: &Firsts<String>, page: &mut Page) {
     let Some((first, others)) = targets.kept.as_slice().split_first() else {
         return;
     };
-    page.text(first.as_str());
+    page.words(first.as_str());
     let more = others.len() as u64;
     if targets.more != 0 {
         return page.count(" and over ", more, " more");

@@ -17,53 +17,30 @@ pub(crate) struct WrongCase<'a> {
     pub(crate) reason: Reason,
     /// How far the responses get that it may carry, the furthest first. None where the reason asks for none.
     pub(crate) candidates: &'a [Candidate],
+    /// Whether it asks for a part of one of these.
     pub(crate) asks_part: bool,
 }
 
-// What a wrong reply asks for, so that what can't help isn't tried: by the rules that are broken by responses which it may
-// carry, or by a mark.
-#[derive(Clone, Copy, Default)]
-struct Asks {
-    for_use: bool,
-    for_fields: bool,
-    for_joining: bool,
-    for_age: bool,
-    for_seconds: bool,
-    for_part: bool,
-    for_mark: bool,
-}
-
-impl Asks {
-    // What a reply asks for that is wrong in that way.
-    fn read(case: WrongCase<'_>, wrong: &Wrong<'_>) -> Self {
-        let mut asks = Asks::default();
-        match case.reason {
-            Reason::NoResponse | Reason::BothMarks => {}
-            Reason::Unmarked => asks.for_mark = true,
-            _ => {
-                asks.for_part = case.asks_part;
-                for candidate in case.candidates {
-                    asks.take(rule_behind(candidate.passed));
-                }
-                // Not where each field that differs is in one of both alone.
-                let may_be_joined = match wrong.differences() {
-                    Some(found) => found.more != 0 || found.has(Change::Changed),
-                    None => true,
-                };
-                let may_carry_others = 1 < case.candidates.len();
-                asks.for_joining = asks.for_fields && (may_carry_others || may_be_joined);
+impl WrongCase<'_> {
+    // Whether one of the responses breaks one of those rules.
+    fn breaks(&self, rules: &[Rule]) -> bool {
+        for candidate in self.candidates {
+            match rule_behind(candidate.passed) {
+                Some(rule) if rules.contains(&rule) => return true,
+                _ => {}
             }
         }
-        asks
+        false
     }
 
-    fn take(&mut self, broken: Option<Rule>) {
-        match broken {
-            Some(Rule::Lifetime | Rule::Use) => self.for_use = true,
-            Some(Rule::Fields) => self.for_fields = true,
-            Some(Rule::Age) => self.for_age = true,
-            Some(Rule::Ttl) => self.for_seconds = true,
-            _ => {}
+    // Whether joined lines may make it right: not where each field that differs is in one of both alone.
+    fn may_be_joined(&self, wrong: &Wrong<'_>) -> bool {
+        if 1 < self.candidates.len() {
+            return true;
+        }
+        match wrong.differences() {
+            Some(found) => found.more != 0 || found.has(Change::Changed),
+            None => true,
         }
     }
 }
@@ -143,18 +120,18 @@ impl Allowance {
         }
     }
 
-    // Whether it may make a reply right that asks for that.
-    fn serves(&self, asks: &Asks) -> bool {
+    // Whether it may make that reply right, so that it is tried.
+    fn serves(&self, case: &WrongCase<'_>, wrong: &Wrong<'_>) -> bool {
         match self {
-            Allowance::Slack(_) => asks.for_use || asks.for_age || asks.for_seconds,
-            Allowance::Unmarked | Allowance::InferredMarks => asks.for_mark,
-            Allowance::AddedFields => asks.for_fields,
-            Allowance::JoinedLines => asks.for_joining,
-            Allowance::Ranges => asks.for_part,
-            Allowance::All => asks.for_fields || asks.for_part,
-            Allowance::Grace(_) => asks.for_use,
-            Allowance::AgeSlack(_) => asks.for_age,
-            Allowance::DefaultLifetime(_) => asks.for_use || asks.for_seconds,
+            Allowance::Slack(_) => case.breaks(&[Rule::Lifetime, Rule::Use, Rule::Age, Rule::Ttl]),
+            Allowance::Unmarked | Allowance::InferredMarks => case.reason == Reason::Unmarked,
+            Allowance::AddedFields => case.breaks(&[Rule::Fields]),
+            Allowance::JoinedLines => case.breaks(&[Rule::Fields]) && case.may_be_joined(wrong),
+            Allowance::Ranges => case.asks_part,
+            Allowance::All => case.asks_part || case.breaks(&[Rule::Fields]),
+            Allowance::Grace(_) => case.breaks(&[Rule::Lifetime, Rule::Use]),
+            Allowance::AgeSlack(_) => case.breaks(&[Rule::Age]),
+            Allowance::DefaultLifetime(_) => case.breaks(&[Rule::Lifetime, Rule::Use, Rule::Ttl]),
         }
     }
 
@@ -188,7 +165,7 @@ impl Allowance {
             Allowance::InferredMarks => ("--infer-marks", None),
         };
         let mut page = Page::new(alloc);
-        page.text(option);
+        page.words(option);
         if let Some(seconds) = seconds {
             page.count(" ", u64::from(seconds), "");
         }
@@ -232,40 +209,15 @@ impl IgnoringTry {
         let Some(added) = added_by(wrong) else {
             return Ok(false);
         };
-        let new = self.new_among(added);
-        let ignored = self.settings.ignored.names().len();
-        let more = ignored.saturating_sub(self.given);
-        let may_serve = more != 0 && (may_carry_others || new == 0);
+        let settings = ignoring(self.alloc, &self.settings, added)?;
+        let before = self.settings.ignored.names().len();
+        let after = settings.ignored.names().len();
+        let may_serve = self.given < before && (may_carry_others || after == before);
         if may_serve && judged.found_with(&self.settings)? == Finding::Right {
             return Ok(true);
         }
-        if new == 0 || MOST_NAMES < more.saturating_add(new) {
-            return Ok(false);
-        }
-        self.is_right_without(added, judged)
-    }
-
-    // How many of those names aren't ignored.
-    fn new_among(&self, differences: &Differences) -> usize {
-        let mut new = 0_usize;
-        for gap in differences.listed.iter() {
-            if !self.settings.ignored.contains(gap.name.as_slice()) {
-                new = new.saturating_add(1);
-            }
-        }
-        new
-    }
-
-    // Whether it is right without those names, which are kept then.
-    fn is_right_without<I: Index>(
-        &mut self,
-        names: &Differences,
-        judged: &JudgedReply<'_, I>,
-    ) -> Result<bool, AllocError> {
-        let mut settings = self.settings.copy(self.alloc)?;
-        ignore_all(self.alloc, &mut settings, names)?;
-        let more = settings.ignored.names().len().saturating_sub(self.given);
-        if MOST_NAMES < more || judged.found_with(&settings)? != Finding::Right {
+        let more = after.saturating_sub(self.given);
+        if after == before || MOST_NAMES < more || judged.found_with(&settings)? != Finding::Right {
             return Ok(false);
         }
         self.settings = settings;
@@ -285,18 +237,19 @@ impl IgnoringTry {
     }
 }
 
-// Ignores the names of those too.
-fn ignore_all(
+// The settings, by which the names of those are ignored, too.
+fn ignoring(
     alloc: Global,
-    settings: &mut Settings,
+    settings: &Settings,
     differences: &Differences,
-) -> Result<(), AllocError> {
+) -> Result<Settings, AllocError> {
+    let mut settings = settings.copy(alloc)?;
     for gap in differences.listed.iter() {
         if !settings.ignored.contains(gap.name.as_slice()) {
             settings.ignored.push(gap.name.copy(alloc)?)?;
         }
     }
-    Ok(())
+    Ok(settings)
 }
 
 // The fields in which a reply differs from the response that is named, if that is what is wrong, and only added ones
@@ -362,12 +315,11 @@ impl Tries {
         if !self.ignoring.makes_right(judged, wrong, may_carry_others)? {
             self.ignoring.wrong = self.ignoring.wrong.saturating_add(1);
         }
-        let asks = Asks::read(case, wrong);
         let mut right = None;
         for fixed in &mut self.fixed {
             let allowance = fixed.allowance;
             if allowance.lets_pass(right)
-                || allowance.serves(&asks)
+                || allowance.serves(&case, wrong)
                     && judged.found_with(&fixed.settings)? == Finding::Right
             {
                 right = Some(allowance);

@@ -5,6 +5,7 @@ use crate::moment::push_moment;
 use crate::octets::push_octets;
 use crate::teller::{FieldOf, RecordName, Teller};
 use crate::values::{push_target, push_value};
+use hc_fields::Octets;
 use hc_head::Target;
 use std::alloc::{AllocError, Global};
 use std::fmt::Write;
@@ -78,17 +79,6 @@ impl Page {
         self.is_refused = self.is_refused || written.is_err();
     }
 
-    /// Writes a text.
-    pub fn text(&mut self, text: &str) {
-        let written = self.text.push_str(text);
-        self.note(written);
-    }
-
-    /// Ends a line.
-    pub fn end_line(&mut self) {
-        self.text("\n");
-    }
-
     /// How many columns of text there are, all in all.
     pub fn columns(&self) -> usize {
         self.text.len()
@@ -97,14 +87,14 @@ impl Page {
     /// Writes spaces after that place, up to so many columns.
     pub fn pad(&mut self, begun: usize, width: usize) {
         for _ in self.text.len()..begun.saturating_add(width) {
-            self.text(" ");
+            self.words(" ");
         }
     }
 
     /// Writes a text, and spaces up to so many columns.
     pub fn padded(&mut self, text: &str, width: usize) {
         let begun = self.text.len();
-        self.text(text);
+        self.words(text);
         self.pad(begun, width);
     }
 
@@ -119,6 +109,28 @@ impl Page {
         let written = push_value(name, value, &mut self.text);
         self.note(written);
     }
+
+    /// Writes what a message has of a field, with its lines joined by a comma and a space. Returns whether it has any.
+    pub fn joined(&mut self, field: FieldOf<'_>) -> bool {
+        match joined(self.alloc, field) {
+            Ok(Some(value)) => self.shown_value(field.name, value.as_slice()),
+            Ok(None) => return false,
+            Err(_) => self.is_refused = true,
+        }
+        true
+    }
+
+    /// Writes a target as it is shown.
+    pub fn target(&mut self, target: &Target) {
+        let written = push_target(target, &mut self.text);
+        self.note(written);
+    }
+}
+
+// The lines of a field joined, where there are any. Its name may be in any case.
+fn joined(alloc: Global, field: FieldOf<'_>) -> Result<Option<Octets>, AllocError> {
+    let name = field.name.to_ascii_lowercase(alloc)?;
+    field.fields.joined(alloc, name.as_slice())
 }
 
 impl Teller for Page {
@@ -131,7 +143,8 @@ impl Teller for Page {
     }
 
     fn words(&mut self, words: &str) {
-        self.text(words);
+        let written = self.text.push_str(words);
+        self.note(written);
     }
 
     fn count(&mut self, before: &str, number: u64, after: &str) {
@@ -151,22 +164,20 @@ impl Teller for Page {
     }
 
     fn said_octets(&mut self, before: &str, octets: &[u8], after: &str) {
-        self.text(before);
+        self.words(before);
         let written = push_octets(octets, &mut self.text);
         self.note(written);
-        self.text(after);
+        self.words(after);
     }
 
     fn said_value(&mut self, field: FieldOf<'_>) {
-        match field.joined(self.alloc) {
-            Ok(Some(value)) => self.shown_value(field.name, value.as_slice()),
-            Ok(None) => self.text("none"),
-            Err(_) => self.is_refused = true,
+        if !self.joined(field) {
+            self.words("none");
         }
     }
 
-    fn say(&mut self, page: Page) {
-        self.text(page.text.as_str());
+    fn said(&mut self, _: &'static str, page: Page) {
+        self.words(page.text.as_str());
         self.take_refusal(&page);
     }
 
@@ -179,7 +190,7 @@ impl Teller for Page {
             columns = columns.saturating_add(1);
         }
         self.padded("", 15_usize.saturating_sub(columns));
-        self.text(" ");
+        self.words(" ");
     }
 
     fn signed(&mut self, _: &'static str, before: &str, number: i64) {
@@ -187,19 +198,15 @@ impl Teller for Page {
         self.note(written);
     }
 
-    fn octets(&mut self, _: &'static str, before: &str, octets: &[u8]) {
-        self.said_octets(before, octets, "");
-    }
-
     fn quoted(&mut self, _: &'static str, octets: &[u8]) {
         self.shown_value(b"", octets);
     }
 
     fn values(&mut self, _: &'static str, before: &str, field: FieldOf<'_>) {
-        self.text(before);
+        self.words(before);
         let lines = lines_of(field);
         if lines == 0 {
-            return self.text("none");
+            return self.words("none");
         }
         if is_credential(field.name) {
             let after = if lines == 1 {
@@ -215,10 +222,5 @@ impl Teller for Page {
             self.shown_value(field.name, line);
             is_first = false;
         }
-    }
-
-    fn target(&mut self, _: &'static str, target: &Target) {
-        let written = push_target(target, &mut self.text);
-        self.note(written);
     }
 }

@@ -1,10 +1,9 @@
 //! Who is told facts: a text, or the members of an object.
 
 use crate::page::Page;
-use hc_fields::{Fields, Octets};
-use hc_head::{Method, Target};
+use hc_fields::Fields;
+use hc_head::Method;
 use hc_transcript::Kind;
-use std::alloc::{AllocError, Global};
 
 /// A record of a recording.
 #[derive(Clone, Copy)]
@@ -46,12 +45,6 @@ impl<'a> FieldOf<'a> {
     pub fn new(name: &'a [u8], fields: &'a Fields) -> Self {
         FieldOf { name, fields }
     }
-
-    /// Its lines joined by a comma and a space; none where there is none.
-    pub fn joined(&self, alloc: Global) -> Result<Option<Octets>, AllocError> {
-        let name = self.name.to_ascii_lowercase(alloc)?;
-        self.fields.joined(alloc, name.as_slice())
-    }
 }
 
 /// Who is told facts. A text has the words that stand between them, and an object the names of all facts, also of those that
@@ -81,9 +74,6 @@ pub trait Teller {
     /// What a message has of a field, with its lines joined, or `none`. A text alone has it.
     fn said_value(&mut self, _field: FieldOf<'_>) {}
 
-    /// What is written on a page. A text alone has it.
-    fn say(&mut self, _page: Page) {}
-
     /// Spaces up to the 16th column of a line, and one at least. A text alone has them.
     fn fill(&mut self) {}
 
@@ -102,8 +92,8 @@ pub trait Teller {
     /// What a message has of a field, with its lines joined, or null, which an object alone has.
     fn known(&mut self, _name: &'static str, _field: FieldOf<'_>) {}
 
-    /// What is written on a page, which an object alone has.
-    fn said(&mut self, _name: &'static str, _page: Page) {}
+    /// What is written on a page.
+    fn said(&mut self, name: &'static str, page: Page);
 
     /// Begins an object of that name in an object.
     fn begin(&mut self, _name: &'static str) {}
@@ -112,7 +102,9 @@ pub trait Teller {
     fn begin_list(&mut self, _name: &'static str) {}
 
     /// Begins an object in a list.
-    fn begin_item(&mut self) {}
+    fn begin_item(&mut self) {
+        self.begin("");
+    }
 
     /// Ends the object or the list that was begun last.
     fn end(&mut self) {}
@@ -127,7 +119,12 @@ pub trait Teller {
     fn signed(&mut self, name: &'static str, before: &str, number: i64);
 
     /// Octets, in a text after another.
-    fn octets(&mut self, name: &'static str, before: &str, octets: &[u8]);
+    fn octets(&mut self, name: &'static str, before: &str, octets: &[u8]) {
+        let mut page = self.page();
+        page.said_octets("", octets, "");
+        self.words(before);
+        self.said(name, page);
+    }
 
     /// Octets, in a text in quotes.
     fn quoted(&mut self, name: &'static str, octets: &[u8]);
@@ -147,9 +144,6 @@ pub trait Teller {
         self.octets(name, before, method.as_slice());
         self.words(after);
     }
-
-    /// A target.
-    fn target(&mut self, name: &'static str, target: &Target);
 
     /// What separates the things of a list in a text: the one text before the first, the other before each further one.
     fn separator(&mut self, is_first: bool, before: &str, between: &str) {

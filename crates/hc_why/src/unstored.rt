@@ -95,11 +95,8 @@ impl Unstorable {
         }
         say_asked(end, teller);
         teller.words("), since ");
-        if teller.is_text() {
-            self.forbids.tell(true, teller);
-        }
         let mut forbidden = teller.page();
-        self.forbids.tell(false, &mut forbidden);
+        self.forbids.tell(teller.is_text(), &mut forbidden);
         teller.said("forbidden", forbidden);
     }
 }

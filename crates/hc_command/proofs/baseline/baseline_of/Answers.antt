@@ -1,8 +1,8 @@
 use Rattle.std.proofs.Common.{IfErr, IfOk, Some}
 use Rattle.std.proofs.lemmas.Result.{IfErr-weaker, IfOk-weaker}
 use Rattle.serde_json.specs.View.{view}
-use Rattle.hc_baseline.specs.Reports.{IsBaseline}
-use Rattle.hc_baseline.specs.declared.baseline.Baseline.{Baseline}
+use Rattle.hc_figures.specs.Reports.{IsBaseline}
+use Rattle.hc_figures.specs.declared.baseline.Baseline.{Baseline}
 use Rattle.hc_command.specs.Baseline.{IsNoBaseline}
 use Rattle.hc_command.specs.declared.baseline.BaselineTrouble.{BaselineTrouble}
 use Rattle.hc_auditing.proofs.AuditLemmas.{at_end}

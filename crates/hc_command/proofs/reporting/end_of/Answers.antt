@@ -1,5 +1,5 @@
 use Rattle.std.proofs.Common.{Option, refl, subst, sym}
-use Rattle.hc_baseline.specs.declared.baseline.Baseline.{Baseline}
+use Rattle.hc_figures.specs.declared.baseline.Baseline.{Baseline}
 use Rattle.hc_command.specs.declared.reporting.ReportEnd.{ReportEnd}
 use Rattle.hc_command.specs.Reporting.{IsLast}
 use Rattle.hc_command.proofs.reporting.end_of.Goals as goal

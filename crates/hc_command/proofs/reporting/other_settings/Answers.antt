@@ -1,5 +1,5 @@
 use Rattle.std.proofs.Common.{◌≡◌, ◌⊎◌, IfSome, Option, subst, sym}
-use Rattle.hc_baseline.specs.declared.baseline.Baseline.{Baseline}
+use Rattle.hc_figures.specs.declared.baseline.Baseline.{Baseline}
 use Rattle.hc_command.specs.Reporting.{IsMadeBy, IsMadeByOthers}
 use Rattle.hc_command.proofs.reporting.other_settings.Goals as goal
 

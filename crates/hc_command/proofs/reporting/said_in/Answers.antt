@@ -1,6 +1,6 @@
 use Rattle.std.proofs.Common.{Bool, Option, subst, sym}
 use Rattle.std.proofs.lemmas.Result.{IfOk-weaker}
-use Rattle.hc_baseline.specs.declared.baseline.Baseline.{Baseline}
+use Rattle.hc_figures.specs.declared.baseline.Baseline.{Baseline}
 use Rattle.hc_command.specs.Reporting.{WritesIn, WritesInJson}
 use Rattle.hc_command.proofs.reporting.said_in.Goals as goal
 

@@ -1,7 +1,7 @@
 use Rattle.std.proofs.Common.{◌++◌, ◌∷◌, [], List, ap, map, refl, subst, take}
 use Rattle.std.proofs.lemmas.List.{take_all}
-use Rattle.hc_json.specs.Objects.{Holds}
-use Rattle.hc_json.proofs.EntryLemmas.{value_pushed}
+use Rattle.hc_figures.specs.Objects.{Holds}
+use Rattle.hc_figures.proofs.EntryLemmas.{value_pushed}
 use Rattle.hc_figures.specs.Json.{listed_data}
 use Rattle.hc_figures.specs.declared.listed.ListedReply.{ListedReply}
 use Rattle.hc_figures.proofs.json.listed_json.Goals as goal

@@ -1,5 +1,5 @@
 use Rattle.std.proofs.Common.{map, take}
-use Rattle.hc_json.specs.Objects.{Holds}
+use Rattle.hc_figures.specs.Objects.{Holds}
 use Rattle.hc_figures.specs.Json.{listed_data}
 use Rattle.hc_figures.proofs.json.listed_json.Given as goal
 

@@ -1,6 +1,6 @@
 use Rattle.std.proofs.Common.{arith, codes, refl}
 use Rattle.serde_json.specs.Data.{no_members}
-use Rattle.hc_json.specs.Entries.{number_data, with_all}
+use Rattle.hc_figures.specs.Entries.{number_data, with_all}
 use Rattle.hc_figures.specs.Figures.{figure_entries}
 use Rattle.hc_figures.proofs.FigureLemmas.{figures_put}
 use Rattle.hc_report.proofs.JsonLemmas.{figures_keep, some_value}

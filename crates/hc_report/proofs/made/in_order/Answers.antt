@@ -3,8 +3,8 @@ use Rattle.serde_json.specs.Data.{no_members, null, put}
 use Rattle.serde_json.specs.View.{view}
 use Rattle.serde_json.specs.declared.value.Value.{the_lemmas}
 use Rattle.serde_json.specs.declared.value.Value.TheVariants.{Null}
-use Rattle.hc_json.specs.Entries.{with_all}
-use Rattle.hc_json.specs.Objects.{Has}
+use Rattle.hc_figures.specs.Entries.{with_all}
+use Rattle.hc_figures.specs.Objects.{Has}
 use Rattle.hc_shown.specs.Octets.{octets_text}
 use Rattle.hc_report.specs.Made.{name_entries}
 use Rattle.hc_report.proofs.MadeLemmas.{name_put}

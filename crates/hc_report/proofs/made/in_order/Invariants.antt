@@ -1,7 +1,7 @@
 use Rattle.std.proofs.Common.{take}
 use Rattle.serde_json.specs.Data.{no_members}
-use Rattle.hc_json.specs.Entries.{with_all}
-use Rattle.hc_json.specs.Objects.{Has}
+use Rattle.hc_figures.specs.Entries.{with_all}
+use Rattle.hc_figures.specs.Objects.{Has}
 use Rattle.hc_report.specs.Made.{name_entries}
 use Rattle.hc_report.proofs.made.in_order.Given as goal
 

@@ -1,6 +1,6 @@
 use Rattle.std.proofs.Common.{◌≡◌, arith}
 use Rattle.std.proofs.lemmas.Grind.{common_steps}
-use Rattle.hc_baseline.specs.Tallies.{gone_from}
+use Rattle.hc_figures.specs.Tallies.{gone_from}
 use Rattle.hc_report.proofs.KindLemmas.{by_kinds}
 use Rattle.hc_report.proofs.counting.CountingReport.gone.Goals as goal
 

@@ -1,7 +1,7 @@
 use Rattle.std.proofs.Common.{arith}
 use Rattle.std.proofs.lemmas.Grind.{common_steps}
-use Rattle.hc_baseline.specs.Kinds.{AreKnown}
-use Rattle.hc_baseline.specs.Tallies.{base_of}
+use Rattle.hc_figures.specs.Kinds.{AreKnown}
+use Rattle.hc_figures.specs.Tallies.{base_of}
 use Rattle.hc_report.proofs.KindLemmas.{by_kinds}
 use Rattle.hc_report.proofs.counting.CountingReport.is_covered.Goals as goal
 

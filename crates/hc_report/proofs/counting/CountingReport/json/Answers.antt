@@ -3,7 +3,7 @@ use Rattle.std.proofs.lemmas.Result.{IfOk-weaker}
 use Rattle.serde_json.specs.Data.{object}
 use Rattle.serde_json.specs.View.{view}
 use Rattle.hc_history.specs.declared.wrong.WrongReply.{WrongReply}
-use Rattle.hc_baseline.specs.Tallies.{HasCounted}
+use Rattle.hc_figures.specs.Tallies.{HasCounted}
 use Rattle.hc_figures.proofs.FigureLemmas.{left_figures}
 use Rattle.hc_report.specs.Kinds.{kinds_in}
 use Rattle.hc_report.specs.Made.{settings_members}

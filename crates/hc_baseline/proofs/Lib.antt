@@ -1,2 +1,0 @@
-pub mod KindLemmas
-mod SumLemmas

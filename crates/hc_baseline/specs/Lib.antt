@@ -1,4 +1,0 @@
-pub mod Kinds
-pub mod Made
-pub mod Reports
-pub mod Tallies
