@@ -52,7 +52,6 @@ pub enum Due<'a> {
 }
 
 /// The ends of forwards that are told of with a reply.
-#[derive(Drop)]
 pub struct Ends<'a> {
     /// The responses that it may carry, as far as they are named.
     pub sources: Vec<&'a End>,
@@ -81,6 +80,32 @@ pub struct Ends<'a> {
     pub not_about: Newest<NotAbout<'a>>,
     // The latest 200 to HEAD since which is about it.
     updated: Option<&'a End>,
+}
+
+impl Drop for Ends<'_> {
+    fn drop(self) {
+        let Ends {
+            sources,
+            unstored,
+            window,
+            near,
+            carried: _,
+            is_given_before: _,
+            due: _,
+            error: _,
+            failure: _,
+            validator: _,
+            invalidators,
+            not_about,
+            updated: _,
+        } = self;
+        drop(sources);
+        drop(unstored);
+        drop(window);
+        drop(near);
+        drop(invalidators);
+        drop(not_about);
+    }
 }
 
 // The first thing that stands against that it is a 304 about the response; nothing where it is none, or is about it.
@@ -169,15 +194,22 @@ impl<'a> Ends<'a> {
     /// Those that are told of with a reply of which that is known.
     pub(crate) fn read(known: &Explanation<'a>) -> Result<Self, AllocError> {
         let mut ends = Ends::none(known.alloc);
+        ends.fill(known)?;
+        Ok(ends)
+    }
+
+    // Takes in all of them.
+    fn fill(&mut self, known: &Explanation<'a>) -> Result<(), AllocError> {
+        let is_not_forwarded = matches!(known.why, Some(Why::NotForwarded(_)));
         for end in known.past.ends.iter() {
             if end.is_of(known.claim.target) {
-                ends.take(known, end)?;
-                ends.take_change(known, end)?;
-            } else if matches!(known.why, Some(Why::NotForwarded(_))) && end.is_near(&known.claim) {
-                ends.near.push(end)?;
+                self.take(known, end)?;
+                self.take_change(known, end)?;
+            } else if is_not_forwarded && end.is_near(&known.claim) {
+                self.near.push(end)?;
             }
         }
-        Ok(ends)
+        Ok(())
     }
 
     // Takes in the next one of the target: the record of a response that is named, and what the reply is wrong by.
@@ -338,16 +370,14 @@ impl Explanation<'_> {
                 stricter = Some(not_about.end);
             }
         }
-        for (end, demand) in [
-            (stricter, STORABLE_304),
-            (self.ends.updated, FRESHENED_BY_HEAD),
-        ] {
-            match end {
-                Some(end) if self.helps(end)? => return Ok(Some(demand)),
-                _ => {}
-            }
+        match stricter {
+            Some(end) if self.helps(end)? => return Ok(Some(STORABLE_304)),
+            _ => {}
         }
-        Ok(None)
+        match self.ends.updated {
+            Some(end) if self.helps(end)? => Ok(Some(FRESHENED_BY_HEAD)),
+            _ => Ok(None),
+        }
     }
 }
 

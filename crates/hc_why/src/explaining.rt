@@ -178,6 +178,7 @@ impl<'a> Explanation<'a> {
         let Some(claim) = judged.claim() else {
             return Ok(None);
         };
+        let permitted = permitted_part(alloc, judged)?;
         let way = way_of(&claim, judged.mark);
         let candidates = judged.candidates()?;
         let bound = if way == Way::Collapsed {
@@ -198,7 +199,7 @@ impl<'a> Explanation<'a> {
             stale: None,
             why: None,
             nearest,
-            permitted: permitted_part(alloc, judged)?,
+            permitted,
             came: None,
             reaches: Reaches::new(alloc),
             before: Reaches::new(alloc),

@@ -19,7 +19,6 @@ use hc_update::Stored;
 use std::alloc::{AllocError, Global};
 
 /// In what a stored response falls short of what a reply carries.
-#[derive(Drop)]
 pub enum Shortfall {
     /// The request is neither GET nor HEAD.
     Asked,
@@ -39,6 +38,18 @@ pub enum Shortfall {
     Age(AgeGap),
     /// The reply's mark tells other seconds.
     Ttl(TtlGap),
+}
+
+impl Drop for Shortfall {
+    fn drop(self) {
+        match self {
+            Shortfall::Selected(selection) => drop(selection),
+            Shortfall::Fields(differences) => drop(differences),
+            Shortfall::Asked | Shortfall::Valid | Shortfall::Body(_) => {}
+            Shortfall::Lifetime(_) | Shortfall::Use(_) => {}
+            Shortfall::Age(_) | Shortfall::Ttl(_) => {}
+        }
+    }
 }
 
 impl Shortfall {
