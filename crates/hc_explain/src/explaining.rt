@@ -72,7 +72,7 @@ impl Drop for Explaining {
 impl Explaining {
     /// Looks for all that is told of that reply.
     pub fn new(alloc: Global, found: FoundReply, form: Form) -> Result<Self, AllocError> {
-        let past = Past::of(alloc, found.target.copy(alloc)?)?;
+        let past = Past::new(alloc, Some(found.target.copy(alloc)?))?;
         Ok(Explaining {
             alloc,
             found,

@@ -5,7 +5,8 @@ use hc_gaps::Rule;
 use hc_history::{Reason, ReplyClaim};
 use hc_shown::Teller;
 use hc_why::{
-    Changes, Due, End, Explanation, Nearest, NoMark, Shortfall, Unstored, Way, Why, Window,
+    Due, End, Ends, Explanation, Nearest, NoMark, Shortfall, Unstored, Way, Why, Window,
+    tell_unstored,
 };
 
 /// What a reply has that isn't from the store.
@@ -36,7 +37,7 @@ pub(crate) fn tell_stale<T: Teller>(known: &Explanation<'_>, teller: &mut T) {
         teller.words("stale           ");
         known.tell_stale(nearest, teller);
         if teller.is_text() {
-            tell_trouble(&known.changes, teller);
+            tell_trouble(&known.ends, teller);
         }
         teller.words("\n");
         teller.end();
@@ -61,28 +62,15 @@ fn say_carried<T: Teller>(end: &End, claim: &ReplyClaim<'_>, teller: &mut T) {
     }
 }
 
-// Tells of which forward something is the answer, if that is known.
-fn say_sent<T: Teller>(end: &End, teller: &mut T) {
-    if let Some(sent) = end.sent {
-        teller.record(", the answer to ", sent);
-    }
-}
-
-fn tell_status<T: Teller>(name: &'static str, end: &End, teller: &mut T) {
-    if let Some(status) = end.status() {
-        teller.number(name, ", a ", u64::from(status.as_u16()), "");
-    }
-}
-
 // Tells what the records after the response that is named made of it.
 fn tell_changes<T: Teller>(known: &Explanation<'_>, nearest: &Nearest<'_>, teller: &mut T) {
-    if let Some(validator) = known.changes.validator {
+    if let Some(validator) = known.ends.validator {
         teller.begin("validator");
         teller.place(validator.record);
         teller.some_record("forward", validator.sent);
         teller.end();
         teller.record(", which the 304 ", validator.record);
-        say_sent(validator, teller);
+        validator.say_sent(teller);
         let is_sent = validator.sent.is_some();
         teller.words(if is_sent { ", freshens" } else { " freshens" });
     }
@@ -99,15 +87,15 @@ fn position_of(end: Option<&End>) -> Option<u64> {
 }
 
 // Tells the error and the failure of the window after which the response was given.
-fn tell_trouble<T: Teller>(changes: &Changes<'_>, teller: &mut T) {
-    teller.some("error", position_of(changes.error));
-    if let Some(error) = changes.error {
+fn tell_trouble<T: Teller>(ends: &Ends<'_>, teller: &mut T) {
+    teller.some("error", position_of(ends.error));
+    if let Some(error) = ends.error {
         teller.record(", given after the error ", error.record);
-        tell_status("error_status", error, teller);
+        error.tell_status("error_status", ", a ", teller);
         teller.words(", which validates nothing");
     }
-    teller.some("failure", position_of(changes.failure));
-    if let Some(failure) = changes.failure {
+    teller.some("failure", position_of(ends.failure));
+    if let Some(failure) = ends.failure {
         teller.record(", given after the failure ", failure.record);
         teller.words(", to which no response came");
     }
@@ -135,7 +123,7 @@ fn begin_nearest<T: Teller>(known: &Explanation<'_>, nearest: &Nearest<'_>, tell
     tell_broken(nearest.breaks(), teller);
     tell_changes(known, nearest, teller);
     if !teller.is_text() || (known.stale.is_none() && known.why.is_some()) {
-        tell_trouble(&known.changes, teller);
+        tell_trouble(&known.ends, teller);
     }
     teller.words("\n");
 }
@@ -145,9 +133,7 @@ fn tell_fall<T: Teller>(known: &Explanation<'_>, nearest: &Nearest<'_>, teller: 
     match &nearest.shortfall {
         Some(shortfall) => known.tell_shortfall(nearest, shortfall, teller),
         None if teller.is_text() => {}
-        None => known
-            .changes
-            .tell_not_about(nearest, known.claim.since, teller),
+        None => known.tell_not_about(nearest, teller),
     }
 }
 
@@ -194,9 +180,10 @@ fn begin_sources<T: Teller>(known: &Explanation<'_>, teller: &mut T) {
 pub(crate) fn tell_wrong<T: Teller>(known: &Explanation<'_>, why: &Why, teller: &mut T) {
     teller.begin("why");
     if !teller.is_text() {
-        teller.word("kind", known.kind(why));
+        teller.word("kind", why.kind(known.nearest.as_ref()));
         let mut what = teller.page();
-        known.name(why, &mut what);
+        let near = known.ends.near.last().copied();
+        why.name(known.nearest.as_ref(), near, &mut what);
         teller.said("what", what);
     }
     let own = known.own_answer();
@@ -276,7 +263,7 @@ fn end_failing<T: Teller>(known: &Explanation<'_>, nearest: &Nearest<'_>, teller
 // Writes the line of the 304 after the request that validated the response which is named, where the reply is judged as
 // a hit all the same.
 fn say_validated<T: Teller>(known: &Explanation<'_>, nearest: &Nearest<'_>, teller: &mut T) {
-    let Some(validator) = known.changes.validator else {
+    let Some(validator) = known.ends.validator else {
         return;
     };
     if known.way != Way::Hit || !known.was_validated(nearest) {
@@ -334,7 +321,7 @@ fn tell_collapsing<T: Teller>(known: &Explanation<'_>, teller: &mut T) {
         }
     }
     if known.nearest.is_none() || !teller.is_text() {
-        known.tell_unstored(": ", teller);
+        tell_unstored(": ", &known.ends.unstored, teller);
     }
     let mut is_first = true;
     for reach in known.before.named.iter() {
@@ -350,7 +337,7 @@ fn tell_collapsing<T: Teller>(known: &Explanation<'_>, teller: &mut T) {
 // Tells what came between request and reply, and the rule that the stored response breaks that is named, if one is.
 fn tell_not_forwarded<T: Teller>(known: &Explanation<'_>, window: &Window, teller: &mut T) {
     begin_between("window ", known, teller);
-    known.tell_window(window, teller);
+    window.tell(&known.claim, &known.ends.window, teller);
     let Some(nearest) = &known.nearest else {
         teller.words("; stored: nothing\n");
         return tell_near(known, teller);
@@ -423,7 +410,7 @@ fn say_standing<T: Teller>(known: &Explanation<'_>, nearest: &Nearest<'_>, telle
 fn say_due<T: Teller>(known: &Explanation<'_>, nearest: &Nearest<'_>, teller: &mut T) {
     match &nearest.shortfall {
         Some(Shortfall::Selected(_)) => {
-            let is_none = known.changes.not_about.is_empty();
+            let is_none = known.ends.not_about.is_empty();
             let besides = if is_none { "" } else { " that is no 304" };
             say_due_answer(besides, known.given(nearest), teller);
         }
@@ -442,7 +429,7 @@ fn say_due_answer<T: Teller>(besides: &str, given: Option<&End>, teller: &mut T)
     teller.words(besides);
     if let Some(end) = given {
         teller.record("; came ", end.record);
-        say_sent(end, teller);
+        end.say_sent(teller);
     }
     teller.words("\n");
 }
@@ -452,13 +439,13 @@ fn say_due_answer<T: Teller>(besides: &str, given: Option<&End>, teller: &mut T)
 fn say_due_unused<T: Teller>(known: &Explanation<'_>, nearest: &Nearest<'_>, teller: &mut T) {
     let due = match &nearest.shortfall {
         Some(Shortfall::Valid) => Due::Answer,
-        _ => known.due(),
+        _ => known.ends.due,
     };
     teller.words("due             ");
     match due {
         Due::Error(end) => {
             teller.record("the error ", end.record);
-            tell_status("", end, teller);
+            end.tell_status("", ", a ", teller);
         }
         Due::Failure(end) => {
             let before = "an error of the cache's own, as 504, since the forward failed: ";
@@ -468,7 +455,7 @@ fn say_due_unused<T: Teller>(known: &Explanation<'_>, nearest: &Nearest<'_>, tel
             teller.words(ANSWER);
             if nearest.has_validator() {
                 teller.count(", or ", nearest.position, " once a 304 has validated it");
-                if let Some(invalidator) = known.changes.invalidators.last() {
+                if let Some(invalidator) = known.ends.invalidators.last() {
                     teller.count(" after ", invalidator.record.position, "");
                 }
             }

@@ -93,11 +93,12 @@ impl Group {
         reason: Reason,
         wrong: Wrong<'_>,
     ) -> Result<Self, AllocError> {
+        let nearest = wrong.nearest.as_ref();
         let mut words = Page::new(alloc);
-        wrong.name(&mut words);
+        wrong.why.name(nearest, wrong.near, &mut words);
         Ok(Group {
             reason,
-            kind: wrong.kind(),
+            kind: wrong.why.kind(nearest),
             what: words.into_text()?,
             is_unrecorded: wrong.is_unrecorded(),
             count: 1,
@@ -131,10 +132,7 @@ impl Group {
 
     /// The fields in which the first of them differs, if these are what is wrong.
     pub(crate) fn differences(&self) -> Option<&Differences> {
-        match &self.shortfall {
-            Some(Shortfall::Fields(found)) => Some(found),
-            _ => None,
-        }
+        self.shortfall.as_ref()?.differences()
     }
 
     /// Writes what is wrong in its replies, and by how much.

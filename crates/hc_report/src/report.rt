@@ -78,7 +78,7 @@ impl Report {
     {
         Ok(Report {
             alloc,
-            past: Past::latest(alloc)?,
+            past: Past::new(alloc, None)?,
             replies: ReplyCounts::new(),
             wrongs: ListedReplies::new(alloc),
             found: Found::new(alloc, settings)?,

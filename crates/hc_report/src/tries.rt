@@ -255,7 +255,7 @@ fn ignoring(
 // The fields in which a reply differs from the response that is named, if that is what is wrong, and only added ones
 // are among them.
 fn added_by<'a>(wrong: &'a Wrong<'_>) -> Option<&'a Differences> {
-    let found = wrong.nearest.as_ref()?.differences()?;
+    let found = wrong.nearest.as_ref()?.shortfall.as_ref()?.differences()?;
     if found.more != 0 || found.has(Change::Dropped) || found.has(Change::Changed) {
         return None;
     }

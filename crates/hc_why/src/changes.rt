@@ -1,9 +1,11 @@
-//! What the records after a response made of it, and what was due in its place.
+//! The ends of forwards that are told of with a reply: what they made of the response that is named, and what was due in its
+//! place.
 
-use crate::past::{End, Heads, Past, copied_request};
-use crate::shortfalls::{Nearest, Shortfall};
-use crate::sources::say_sent;
+use crate::explaining::Explanation;
+use crate::past::{End, Heads, copied_request};
+use crate::shortfalls::Nearest;
 use crate::window::asks_the_same;
+use crate::wrongs::Why;
 use hc_fields::{END_OF_MOMENTS, Fields, decimal};
 use hc_gaps::{Against, Demand, Newest, Rule, STORABLE_304, agree, first_against};
 use hc_head::{StatusCode, is_error_status, is_head};
@@ -20,7 +22,7 @@ pub(crate) const INVALIDATED: Demand = Demand {
 };
 
 /// HEAD changes nothing that is stored.
-pub(crate) const FRESHENED_BY_HEAD: Demand = Demand {
+const FRESHENED_BY_HEAD: Demand = Demand {
     sections: "no RFC (RFC 9111 section 4.3.5 asks that a 200 to HEAD updates what is stored), but this auditor's stricter rule",
     words: "a reply has the stored response's fields as the latest 304 about it left them, whatever a HEAD brought",
 };
@@ -28,14 +30,14 @@ pub(crate) const FRESHENED_BY_HEAD: Demand = Demand {
 /// A 304 of the response's target that isn't about it.
 #[derive(Clone, Copy)]
 pub struct NotAbout<'a> {
-    /// The end of its forward.
-    pub end: &'a End,
-    /// The first thing that stands against it.
-    pub against: Against,
-    /// Whether no RFC says so.
-    pub is_stricter: bool,
-    /// Whether its validator is that of the response.
-    pub agrees: bool,
+    // The end of its forward.
+    end: &'a End,
+    // The first thing that stands against it.
+    against: Against,
+    // Whether no RFC says so.
+    is_stricter: bool,
+    // Whether its validator is that of the response.
+    agrees: bool,
 }
 
 /// What was due in place of a response that may not be given.
@@ -49,58 +51,60 @@ pub enum Due<'a> {
     Failure(&'a End),
 }
 
-/// What the records after a response made of it.
-pub struct Changes<'a> {
-    /// The 304 that freshened it last.
-    pub validator: Option<&'a End>,
+/// The ends of forwards that are told of with a reply.
+pub struct Ends<'a> {
+    /// The responses that it may carry, as far as they are named.
+    pub sources: Vec<&'a End>,
+    /// Those of the target that may not be stored, where that is what is wrong.
+    pub unstored: Newest<&'a End>,
+    /// Those in the window, where the reply went forward.
+    pub window: Newest<&'a End>,
+    /// Those in it of the same path under another host that the reply would carry.
+    pub near: Newest<&'a End>,
+    /// The latest in it that the reply carries.
+    pub carried: Option<&'a End>,
+    /// Whether the reply has the status and the body of a response of the target from before its request.
+    pub(crate) is_given_before: bool,
+    /// What was due, by the latest in the window of a forward that may have been made for the request.
+    pub due: Due<'a>,
     /// The latest error of the origin in the window, to whatever request of the target.
     pub error: Option<&'a End>,
     /// The latest failure there.
     pub failure: Option<&'a End>,
+    /// The 304 that freshened the response last that is named.
+    pub validator: Option<&'a End>,
     /// What invalidated it since it is as it is.
     pub invalidators: Newest<&'a End>,
     /// The 304s that aren't about it: of the window, since one was about it; of an invalidated one those since; and whenever
     /// they came those that no RFC says so of.
     pub not_about: Newest<NotAbout<'a>>,
-    /// The latest 200 to HEAD since which is about it.
-    pub updated: Option<&'a End>,
+    // The latest 200 to HEAD since which is about it.
+    updated: Option<&'a End>,
 }
 
-impl Drop for Changes<'_> {
+impl Drop for Ends<'_> {
     fn drop(self) {
-        let Changes {
-            validator: _,
+        let Ends {
+            sources,
+            unstored,
+            window,
+            near,
+            carried: _,
+            is_given_before: _,
+            due: _,
             error: _,
             failure: _,
+            validator: _,
             invalidators,
             not_about,
             updated: _,
         } = self;
+        drop(sources);
+        drop(unstored);
+        drop(window);
+        drop(near);
         drop(invalidators);
         drop(not_about);
-    }
-}
-
-impl End {
-    // Whether it invalidates its target.
-    fn invalidates(&self) -> bool {
-        match self.status() {
-            Some(status) => invalidates(&self.method, status),
-            None => false,
-        }
-    }
-
-    // Whether it is an error of the origin.
-    fn is_error(&self) -> bool {
-        match self.status() {
-            Some(status) => is_error_status(status),
-            None => false,
-        }
-    }
-
-    // Whether it is a 200 to HEAD.
-    fn is_head(&self) -> bool {
-        is_head(&self.method) && self.status() == Some(StatusCode::OK)
     }
 }
 
@@ -110,29 +114,25 @@ fn against<'a>(
     nearest: &Nearest<'_>,
     end: &'a End,
 ) -> Result<Option<NotAbout<'a>>, AllocError> {
-    let Some(heads) = end.heads() else {
+    let Some(heads) = &end.heads else {
         return Ok(None);
     };
-    if heads.response.status != StatusCode::NOT_MODIFIED {
-        return Ok(None);
-    }
-    if end.record.position < nearest.position {
-        return Ok(Some(NotAbout {
-            end,
-            against: Against::Earlier,
-            is_stricter: false,
-            agrees: false,
-        }));
-    }
     let (state, forward, response) = (nearest.state, &heads.forward, &heads.response);
-    let Some(against) = first_against(alloc, state, forward, response)? else {
+    if response.status != StatusCode::NOT_MODIFIED {
+        return Ok(None);
+    }
+    let first = if end.record.position < nearest.position {
+        Some(Against::Earlier)
+    } else {
+        first_against(alloc, state, forward, response)?
+    };
+    let Some(against) = first else {
         return Ok(None);
     };
-    let is_stricter = against.is_stricter(alloc, state, forward, response)?;
     Ok(Some(NotAbout {
         end,
         against,
-        is_stricter,
+        is_stricter: against.is_stricter(alloc, state, forward, response)?,
         agrees: agree(state, forward, response),
     }))
 }
@@ -171,103 +171,136 @@ fn may_update(alloc: Global, state: &Stored, heads: &Heads) -> Result<bool, Allo
     )
 }
 
-// Whether a 304 might have been about the response: one of the window, but for those before one that was; or, where it is
-// invalidated, any since it is as it is.
-fn awaits(claim: &ReplyClaim<'_>, nearest: &Nearest<'_>, end: &End) -> bool {
-    let is_settled = end.record.position <= nearest.settled_at();
-    match &nearest.shortfall {
-        Some(Shortfall::Valid) => !is_settled,
-        _ => end.is_in_window(claim) && (!is_settled || nearest.state.validated_at.is_none()),
-    }
-}
-
-impl<'a> Changes<'a> {
-    /// Nothing.
+impl<'a> Ends<'a> {
+    /// None.
     pub(crate) fn none(alloc: Global) -> Self {
-        Changes {
-            validator: None,
+        Ends {
+            sources: Vec::new(alloc),
+            unstored: Newest::new(alloc),
+            window: Newest::new(alloc),
+            near: Newest::new(alloc),
+            carried: None,
+            is_given_before: false,
+            due: Due::Answer,
             error: None,
             failure: None,
+            validator: None,
             invalidators: Newest::new(alloc),
             not_about: Newest::new(alloc),
             updated: None,
         }
     }
 
-    /// What the records made of the response that is named, if one is.
-    pub(crate) fn read(
-        alloc: Global,
-        claim: &ReplyClaim<'_>,
-        nearest: Option<&Nearest<'_>>,
-        past: &'a Past,
-    ) -> Result<Self, AllocError> {
-        let mut changes = Changes::none(alloc);
-        let Some(nearest) = nearest else {
-            return Ok(changes);
-        };
-        for end in past.ends().iter() {
-            if end.is_of(claim.target) {
-                changes.take(claim, nearest, end);
-                changes.take_since(alloc, nearest, end)?;
-                changes.take_not_about(alloc, claim, nearest, end)?;
+    /// Those that are told of with a reply of which that is known.
+    pub(crate) fn read(known: &Explanation<'a>) -> Result<Self, AllocError> {
+        let mut ends = Ends::none(known.alloc);
+        ends.fill(known)?;
+        Ok(ends)
+    }
+
+    // Takes in all of them.
+    fn fill(&mut self, known: &Explanation<'a>) -> Result<(), AllocError> {
+        let is_not_forwarded = matches!(known.why, Some(Why::NotForwarded(_)));
+        for end in known.past.ends.iter() {
+            if end.is_of(known.claim.target) {
+                self.take(known, end)?;
+                self.take_change(known, end)?;
+            } else if is_not_forwarded && end.is_near(&known.claim) {
+                self.near.push(end)?;
             }
         }
-        Ok(changes)
+        Ok(())
     }
 
-    // Takes in what made the response what it is, and an error or a failure of the window.
-    fn take(&mut self, claim: &ReplyClaim<'_>, nearest: &Nearest<'_>, end: &'a End) {
-        if nearest.state.validated_at == Some(end.record.position) {
+    // Takes in the next one of the target: the record of a response that is named, and what the reply is wrong by.
+    fn take(&mut self, known: &Explanation<'_>, end: &'a End) -> Result<(), AllocError> {
+        let position = end.record.position;
+        if known.reaches.names(position) {
+            self.sources.push(end)?;
+        }
+        let is_in_window = known.claim.since < position;
+        if is_in_window {
+            self.take_in_window(&known.claim, end);
+        } else if end.is_given(&known.claim) {
+            self.is_given_before = true;
+        }
+        let is_unstored = end.forbids.is_some();
+        match known.why {
+            Some(Why::NoResponse(_)) if is_unstored => self.unstored.push(end),
+            Some(Why::NotCollapsible) if is_unstored && is_in_window => self.unstored.push(end),
+            Some(Why::NotForwarded(_)) if is_in_window => self.window.push(end),
+            _ => Ok(()),
+        }
+    }
+
+    // Takes in one of the target in the window: what the reply carries, an error or a failure, and what is due.
+    fn take_in_window(&mut self, claim: &ReplyClaim<'_>, end: &'a End) {
+        if end.is_carried(claim) {
+            self.carried = Some(end);
+        }
+        let due = match end.status {
+            None => Due::Failure(end),
+            Some(status) if is_error_status(status) => Due::Error(end),
+            Some(_) => Due::Answer,
+        };
+        match due {
+            Due::Failure(_) => self.failure = Some(end),
+            Due::Error(_) => self.error = Some(end),
+            Due::Answer => {}
+        }
+        if may_be_for(end.cause, claim.exchange) && asks_the_same(claim, &end.method) {
+            self.due = due;
+        }
+    }
+
+    // Takes in what one of the target made of the response that is named, or might have, since it is as it is: what freshened it;
+    // what invalidated it, where no 304 before that might have helped; a 200 to HEAD that is about it; and a 304 that isn't. Such
+    // a one might have been about it in the window, but for those before one that was; or, where it is invalidated, at any time.
+    fn take_change(&mut self, known: &Explanation<'_>, end: &'a End) -> Result<(), AllocError> {
+        let Some(nearest) = &known.nearest else {
+            return Ok(());
+        };
+        let position = end.record.position;
+        let validated_at = nearest.state.validated_at;
+        if validated_at == Some(position) {
             self.validator = Some(end);
         }
-        if !end.is_in_window(claim) {
-            return;
+        let is_since = validated_at.unwrap_or(nearest.position) < position;
+        if is_since {
+            self.take_since(known.alloc, nearest, end)?;
         }
-        if end.answer.is_none() {
-            self.failure = Some(end);
-        } else if end.is_error() {
-            self.error = Some(end);
+        let is_awaited = if nearest.breaks() == Some(Rule::Valid) {
+            is_since
+        } else {
+            known.claim.since < position && (is_since || validated_at.is_none())
+        };
+        match against(known.alloc, nearest, end)? {
+            Some(not_about) if is_awaited || (not_about.is_stricter && is_since) => {
+                self.not_about.push(not_about)
+            }
+            _ => Ok(()),
         }
     }
 
-    // Takes in what changed the response, or might have, since it is as it is: what invalidated it, where no 304 before that might
-    // have helped; and a 200 to HEAD that is about it.
+    // Takes in what invalidated the response that is named, or a 200 to HEAD that is about it.
     fn take_since(
         &mut self,
         alloc: Global,
         nearest: &Nearest<'_>,
         end: &'a End,
     ) -> Result<(), AllocError> {
-        if end.record.position <= nearest.settled_at() {
+        let Some(status) = end.status else {
             return Ok(());
-        }
-        if end.invalidates() && matches!(&nearest.shortfall, Some(Shortfall::Valid)) {
+        };
+        if nearest.breaks() == Some(Rule::Valid) && invalidates(&end.method, status) {
             self.not_about = Newest::new(alloc);
             return self.invalidators.push(end);
         }
-        match end.heads() {
-            Some(heads) if end.is_head() && may_update(alloc, nearest.state, heads)? => {
+        match &end.heads {
+            Some(heads) if end.is_ok_to_head() && may_update(alloc, nearest.state, heads)? => {
                 self.updated = Some(end);
             }
             _ => {}
-        }
-        Ok(())
-    }
-
-    // Takes in a 304 that isn't about it.
-    fn take_not_about(
-        &mut self,
-        alloc: Global,
-        claim: &ReplyClaim<'_>,
-        nearest: &Nearest<'_>,
-        end: &'a End,
-    ) -> Result<(), AllocError> {
-        let Some(not_about) = against(alloc, nearest, end)? else {
-            return Ok(());
-        };
-        let is_since = nearest.settled_at() < end.record.position;
-        if awaits(claim, nearest, end) || (not_about.is_stricter && is_since) {
-            self.not_about.push(not_about)?;
         }
         Ok(())
     }
@@ -281,21 +314,12 @@ impl<'a> Changes<'a> {
         }
         false
     }
+}
 
-    /// The latest 304 of which no RFC says that it isn't about the response.
-    pub(crate) fn permitted(&self) -> Option<NotAbout<'a>> {
-        let mut permitted = None;
-        for not_about in self.not_about.named.iter() {
-            if not_about.is_stricter {
-                permitted = Some(*not_about);
-            }
-        }
-        permitted
-    }
-
-    /// The fields of the 304 that freshened the response last, if it is known.
-    pub(crate) fn renewed(&self) -> Option<&'a Fields> {
-        self.validator?.fields()
+impl End {
+    // Whether it is a 200 to HEAD.
+    fn is_ok_to_head(&self) -> bool {
+        is_head(&self.method) && self.status == Some(StatusCode::OK)
     }
 }
 
@@ -312,70 +336,48 @@ fn copied(alloc: Global, state: &Stored) -> Result<Stored, AllocError> {
     })
 }
 
-// Whether the response would keep the rule that it breaks, and the reply have its fields, had that answer freshened it; a 200 to
-// HEAD validates nothing.
-fn helps(
-    alloc: Global,
-    claim: &ReplyClaim<'_>,
-    nearest: &Nearest<'_>,
-    end: &End,
-) -> Result<bool, AllocError> {
-    let (Some(heads), Some(sent), Some(rule)) = (end.heads(), end.sent, nearest.breaks()) else {
-        return Ok(false);
-    };
-    if END_OF_MOMENTS <= end.record.moment {
-        return Ok(false);
-    }
-    let mut state = copied(alloc, nearest.state)?;
-    let (sent_at, came_at) = (sent.moment, end.record.moment);
-    state.freshen(&heads.response, sent_at, came_at, end.record.position)?;
-    if end.is_head() {
-        state.invalid = nearest.state.invalid;
-        state.validated_at = nearest.state.validated_at;
-    }
-    let wanted = rule.reason().number().max(Rule::Fields.reason().number());
-    Ok(wanted <= passed(alloc, claim, claim.target, &state)?)
-}
-
-/// What is asked where the response would keep the rule that it breaks, had an answer freshened it of which RFCs permit that.
-pub(crate) fn permitted_change(
-    alloc: Global,
-    claim: &ReplyClaim<'_>,
-    nearest: &Nearest<'_>,
-    changes: &Changes<'_>,
-) -> Result<Option<Demand>, AllocError> {
-    if let Some(permitted) = changes.permitted() {
-        if helps(alloc, claim, nearest, permitted.end)? {
-            return Ok(Some(STORABLE_304));
+impl Explanation<'_> {
+    // Whether the response that is named would keep the rule that it breaks, and the reply have its fields, had that answer
+    // freshened it; a 200 to HEAD validates nothing.
+    fn helps(&self, end: &End) -> Result<bool, AllocError> {
+        let (Some(nearest), Some(heads), Some(sent)) = (&self.nearest, &end.heads, end.sent) else {
+            return Ok(false);
+        };
+        let Some(rule) = nearest.breaks() else {
+            return Ok(false);
+        };
+        let (sent_at, came_at) = (sent.moment, end.record.moment);
+        if END_OF_MOMENTS <= came_at {
+            return Ok(false);
         }
-    }
-    match changes.updated {
-        Some(updated) if helps(alloc, claim, nearest, updated)? => Ok(Some(FRESHENED_BY_HEAD)),
-        _ => Ok(None),
-    }
-}
-
-/// What was due in place of a response that may not be given: by the latest end in the window of a forward that may have been made
-/// for the request.
-pub(crate) fn due_of<'a>(claim: &ReplyClaim<'_>, past: &'a Past) -> Due<'a> {
-    let mut due = Due::Answer;
-    for end in past.ends().iter() {
-        let is_own = may_be_for(end.cause, claim.exchange) && asks_the_same(claim, &end.method);
-        if is_own && end.is_in_window(claim) {
-            due = due_by(end);
+        let mut state = copied(self.alloc, nearest.state)?;
+        state.freshen(&heads.response, sent_at, came_at, end.record.position)?;
+        if end.is_ok_to_head() {
+            state.invalid = nearest.state.invalid;
+            state.validated_at = nearest.state.validated_at;
         }
+        let wanted = rule.reason().number().max(Rule::Fields.reason().number());
+        let claim = &self.claim;
+        Ok(wanted <= passed(self.alloc, claim, claim.target, &state)?)
     }
-    due
-}
 
-// What is due where that is the latest end.
-fn due_by(end: &End) -> Due<'_> {
-    if end.answer.is_none() {
-        Due::Failure(end)
-    } else if end.is_error() {
-        Due::Error(end)
-    } else {
-        Due::Answer
+    /// What is asked where the response that is named would keep the rule that it breaks, had an answer freshened it of which RFCs
+    /// permit that: the latest 304 of which none says that it isn't about it, or a 200 to HEAD.
+    pub(crate) fn permitted_change(&self) -> Result<Option<Demand>, AllocError> {
+        let mut stricter = None;
+        for not_about in self.ends.not_about.named.iter() {
+            if not_about.is_stricter {
+                stricter = Some(not_about.end);
+            }
+        }
+        match stricter {
+            Some(end) if self.helps(end)? => return Ok(Some(STORABLE_304)),
+            _ => {}
+        }
+        match self.ends.updated {
+            Some(end) if self.helps(end)? => Ok(Some(FRESHENED_BY_HEAD)),
+            _ => Ok(None),
+        }
     }
 }
 
@@ -384,9 +386,7 @@ fn tell_invalidator<T: Teller>(end: &End, teller: &mut T) {
     teller.place(end.record);
     teller.some_record("forward", end.sent);
     teller.record("", end.record);
-    if let Some(status) = end.status() {
-        teller.number("status", ", a ", u64::from(status.as_u16()), "");
-    }
+    end.tell_status("status", ", a ", teller);
     teller.method("method", " to the ", &end.method, " ");
     if let Some(sent) = end.sent {
         teller.record("", sent);
@@ -395,78 +395,67 @@ fn tell_invalidator<T: Teller>(end: &End, teller: &mut T) {
     teller.words("of the same target, invalidated it");
 }
 
-impl Changes<'_> {
+impl Ends<'_> {
     /// Tells what invalidated the response.
     pub(crate) fn tell_invalidators<T: Teller>(&self, teller: &mut T) {
         teller.begin_list("invalidated_by");
-        let mut is_first = true;
-        for end in self.invalidators.named.iter() {
-            teller.separator(is_first, "", "; ");
+        for (place, end) in self.invalidators.named.iter().enumerate() {
+            teller.separator(place == 0, "", "; ");
             teller.begin_item();
             tell_invalidator(end, teller);
             teller.end();
-            is_first = false;
         }
         teller.end();
         teller.say_more(self.invalidators.older);
     }
+}
 
-    /// Tells each 304 that isn't about the response at that position, which came since it was invalidated or after the request.
-    pub fn tell_not_about<T: Teller>(&self, nearest: &Nearest<'_>, since: u64, teller: &mut T) {
+impl Explanation<'_> {
+    /// Tells each 304 that isn't about that response, which came since it was invalidated or after the request.
+    pub fn tell_not_about<T: Teller>(&self, nearest: &Nearest<'_>, teller: &mut T) {
         teller.begin_list("not_modified");
-        for not_about in self.not_about.named.iter() {
+        for not_about in self.ends.not_about.named.iter() {
             teller.begin_item();
-            not_about.tell(nearest, since, teller);
+            self.tell_one_not_about(nearest, not_about, teller);
             teller.end();
         }
         teller.end();
-        teller.more("more_not_modified", self.not_about.older);
-    }
-}
-
-impl NotAbout<'_> {
-    // Since when it came.
-    fn since_when(&self, nearest: &Nearest<'_>, since: u64) -> &'static str {
-        let was_validated = match nearest.state.validated_at {
-            Some(position) => since < position,
-            None => false,
-        };
-        let is_invalid = matches!(&nearest.shortfall, Some(Shortfall::Valid));
-        if was_validated || is_invalid || self.end.record.position < since {
-            "since"
-        } else {
-            "after the request"
-        }
+        teller.more("more_not_modified", self.ends.not_about.older);
     }
 
-    // Tells that it doesn't validate the response, and why (RFC 9111 section 4.3.4).
-    fn tell<T: Teller>(&self, nearest: &Nearest<'_>, since: u64, teller: &mut T) {
-        teller.place(self.end.record);
-        teller.some_record("forward", self.end.sent);
-        teller.record("; the 304 ", self.end.record);
-        say_sent(self.end, teller);
-        teller.words(", came ");
-        teller.words(self.since_when(nearest, since));
-        teller.count(", but doesn't validate ", nearest.position, "");
-        self.tell_against(nearest, teller);
-    }
-
-    // Tells why.
-    fn tell_against<T: Teller>(&self, nearest: &Nearest<'_>, teller: &mut T) {
-        let Some(heads) = self.end.heads() else {
+    // Tells that a 304 doesn't validate the response, and why (RFC 9111 section 4.3.4).
+    fn tell_one_not_about<T: Teller>(
+        &self,
+        nearest: &Nearest<'_>,
+        not_about: &NotAbout<'_>,
+        teller: &mut T,
+    ) {
+        let (end, against) = (not_about.end, not_about.against);
+        let Some(heads) = &end.heads else {
             return;
         };
-        if self.is_stricter {
+        teller.place(end.record);
+        teller.some_record("forward", end.sent);
+        teller.record("; the 304 ", end.record);
+        end.say_sent(teller);
+        let is_invalid = nearest.breaks() == Some(Rule::Valid);
+        let is_before = end.record.position < self.claim.since;
+        teller.words(if self.was_validated(nearest) || is_invalid || is_before {
+            ", came since"
+        } else {
+            ", came after the request"
+        });
+        teller.count(", but doesn't validate ", nearest.position, "");
+        if not_about.is_stricter {
             teller.words(" (this auditor's stricter rule): ");
             teller.flag("stricter", true);
-        } else if matches!(self.against, Against::Unselected) {
-            teller.word("against", self.against.name());
+        } else if matches!(against, Against::Unselected) {
+            teller.word("against", against.name());
             return teller.words(": Vary doesn't select its forward either");
         } else {
             teller.words(" (RFC 9111 section 4.3.4): ");
         }
-        let (stored, forwarded) = (&nearest.state.fields, &heads.forward.fields);
-        self.against
-            .tell(stored, forwarded, &heads.response.fields, teller);
+        let (forwarded, received) = (&heads.forward.fields, &heads.response.fields);
+        against.tell(&nearest.state.fields, forwarded, received, teller);
     }
 }

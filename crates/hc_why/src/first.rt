@@ -9,6 +9,7 @@ use hc_history::WrongReply;
 use std::alloc::Global;
 
 /// A witness that looks for the first wrong reply.
+#[derive(Drop)]
 pub struct FirstWrong {
     pub(crate) alloc: Global,
     pub(crate) first: Option<WrongReply>,
@@ -16,30 +17,14 @@ pub struct FirstWrong {
     ghost of_first: { ForSome found (λ reply. IsThat first (position_of reply) (finding_of reply)) },
 }
 
-impl Drop for FirstWrong {
-    fn drop(self) {
-        let FirstWrong {
-            alloc: _,
-            first: _,
-            found,
-        } = self;
-        drop(found);
-    }
-}
-
 impl FirstWrong {
     /// What was found of it, which is moved.
-    pub fn into_found(self) -> Option<FoundReply>
+    pub fn into_found(mut self) -> Option<FoundReply>
         // It is of the first wrong reply.
         ensures of_first { IfSome result (λ reply. IsThat self.first (position_of reply) (finding_of reply)) }
         // There is something where there is such a reply.
         ensures there { HasFoundOf self.first self.found → IsSome self.first → IsSome result }
     {
-        let FirstWrong {
-            alloc: _,
-            first: _,
-            found,
-        } = self;
-        found
+        self.found.take()
     }
 }

@@ -15,13 +15,13 @@ mod unstored;
 mod window;
 mod wrongs;
 
-pub use changes::{Changes, Due, NotAbout};
-pub use explaining::{Ends, Explanation, Way};
+pub use changes::{Due, Ends};
+pub use explaining::{Explanation, Way};
 pub use first::FirstWrong;
 pub use found::FoundReply;
-pub use past::{Answer, End, Heads, Past, Unstorable};
+pub use past::{End, Past};
 pub use seeking::ReplyAt;
 pub use shortfalls::{Nearest, Reach, Reaches, Shortfall};
-pub use unstored::Unstored;
+pub use unstored::{Unstored, tell_unstored};
 pub use window::Window;
 pub use wrongs::{NoMark, Why, Wrong, names_response};

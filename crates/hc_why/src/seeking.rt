@@ -42,13 +42,18 @@ impl FirstWrong {
     {
         self.first.is_some()
     }
+}
 
-    // Takes in a reply.
-    fn take<I: Index>(&mut self, judged: &JudgedReply<'_, I>) -> Result<(), AllocError>
-        ensures told { (wrongs : List WrongReply) → self.old.first ≡ slice_get wrongs 0
-            → OnOk result (self.new.first ≡ slice_get (wrongs ++ wrong_of judged.now.position judged.now.finding) 0) }
-        ensures heard { (h : List Item) → HasFound self.old → IsReplyBehind I.seen h judged.now → OnOk result (HasFound self.new) }
-    {
+impl<I: Index> Witness<I> for FirstWrong {
+    ghost tells = { λ seeker wrongs. first_of seeker ≡ slice_get wrongs 0 };
+
+    ghost hears = { λ seeker h. HasFound seeker };
+
+    fn pass(&mut self, _: &PassedRecord<'_, I>) -> Result<(), AllocError> {
+        Ok(())
+    }
+
+    fn see(&mut self, judged: &JudgedReply<'_, I>) -> Result<(), AllocError> {
         let Finding::Wrong(reason) = judged.finding else {
             return Ok(());
         };
@@ -65,21 +70,8 @@ impl FirstWrong {
     }
 }
 
-impl<I: Index> Witness<I> for FirstWrong {
-    ghost tells = { λ seeker wrongs. first_of seeker ≡ slice_get wrongs 0 };
-
-    ghost hears = { λ seeker h. HasFound seeker };
-
-    fn pass(&mut self, _: &PassedRecord<'_, I>) -> Result<(), AllocError> {
-        Ok(())
-    }
-
-    fn see(&mut self, judged: &JudgedReply<'_, I>) -> Result<(), AllocError> {
-        self.take(judged)
-    }
-}
-
 /// A witness that looks for the reply at a position.
+#[derive(Drop)]
 pub struct ReplyAt {
     alloc: Global,
     position: u64,
@@ -87,19 +79,6 @@ pub struct ReplyAt {
     // Why the reply there is wrong, if it is.
     reason: Option<Reason>,
     found: Option<FoundReply>,
-}
-
-impl Drop for ReplyAt {
-    fn drop(self) {
-        let ReplyAt {
-            alloc: _,
-            position: _,
-            is_behind: _,
-            reason: _,
-            found,
-        } = self;
-        drop(found);
-    }
 }
 
 impl ReplyAt {
@@ -126,7 +105,7 @@ impl ReplyAt {
     }
 
     /// What was found of the reply, which is moved. None where another record, or none, stands there.
-    pub fn into_found(self) -> Option<FoundReply>
+    pub fn into_found(mut self) -> Option<FoundReply>
         // It is wrong where one of the wrong replies stands there, by its reason.
         ensures place { (wrongs : List WrongReply) → IsFoundAt self wrongs
             → IfSome result (λ reply. IsOfPlace (place_of self) wrongs (position_of reply) (finding_of reply)) }
@@ -136,14 +115,7 @@ impl ReplyAt {
         ensures none { (h : List Item) (wrongs : List WrongReply) → HasHeard self h → IsFoundAt self wrongs → result ≡ None
             → wrong_at (place_of self) wrongs ≡ None }
     {
-        let ReplyAt {
-            alloc: _,
-            position: _,
-            is_behind: _,
-            reason: _,
-            found,
-        } = self;
-        found
+        self.found.take()
     }
 
     /// Whether the record at the position has passed, so that no further one tells more of it.

@@ -7,16 +7,14 @@ ghost use Rattle.hc_transcript.specs.declared.format.Format.{Format};
 ghost use Rattle.hc_history.specs.Seen.{IsSeenAs};
 ghost use Rattle.hc_why.specs.Naming.{GetsFurthest, IsOneOf, IsShortfall, IsThatOf, first_after, rule_of};
 
-use crate::explaining::found_with;
-use hc_audit::JudgedReply;
 use hc_gaps::{
     AgeGap, ContentGap, Differences, NAMED, Rule, Selection, Setting, TtlGap, Usage, age_gap,
     compare, content_gap, has_body, rule_behind, ttl_gap, unmet_members, usage_at,
 };
-use hc_history::{Candidate, Finding, Reason, ReplyClaim};
+use hc_history::{Candidate, ReplyClaim};
 use hc_index::Index;
 use hc_rules::{last_modified, tag};
-use hc_shown::{Page, Teller};
+use hc_shown::Page;
 use hc_update::Stored;
 use std::alloc::{AllocError, Global};
 
@@ -55,26 +53,32 @@ impl Drop for Shortfall {
 }
 
 impl Shortfall {
-    // In what the response falls short that breaks that rule.
+    // In what the response falls short that breaks that rule, if it breaks one.
     fn read(
         alloc: Global,
         claim: &ReplyClaim<'_>,
         state: &Stored,
-        rule: Rule,
-    ) -> Result<Self, AllocError>
-        ensures rule { IfOk result (λ found. rule_of found ≡ rule) }
-        ensures told { IfOk result (IsShortfall claim.now state.now) }
+        rule: Option<Rule>,
+    ) -> Result<Option<Self>, AllocError>
+        ensures rule { IfOk result (λ found. option_map rule_of found ≡ rule) }
+        ensures told { IfOk result (λ found. IfSome found (IsShortfall claim.now state.now)) }
     {
+        let Some(rule) = rule else {
+            return Ok(None);
+        };
         match rule {
-            Rule::Asked => Ok(Shortfall::Asked),
-            Rule::Selected => Ok(Shortfall::Selected(unmet_members(alloc, claim, state)?)),
-            Rule::Valid => Ok(Shortfall::Valid),
-            Rule::Lifetime => Ok(Shortfall::Lifetime(usage_at(claim, state))),
-            Rule::Use => Ok(Shortfall::Use(usage_at(claim, state))),
-            Rule::Body => Ok(Shortfall::Body(content_gap(claim, state))),
-            Rule::Fields => Ok(Shortfall::Fields(compare(alloc, claim, state)?)),
-            Rule::Age => Ok(Shortfall::Age(age_gap(claim, state))),
-            Rule::Ttl => Ok(Shortfall::Ttl(ttl_gap(claim, state))),
+            Rule::Asked => Ok(Some(Shortfall::Asked)),
+            Rule::Selected => {
+                let unmet = unmet_members(alloc, claim, state)?;
+                Ok(Some(Shortfall::Selected(unmet)))
+            }
+            Rule::Valid => Ok(Some(Shortfall::Valid)),
+            Rule::Lifetime => Ok(Some(Shortfall::Lifetime(usage_at(claim, state)))),
+            Rule::Use => Ok(Some(Shortfall::Use(usage_at(claim, state)))),
+            Rule::Body => Ok(Some(Shortfall::Body(content_gap(claim, state)))),
+            Rule::Fields => Ok(Some(Shortfall::Fields(compare(alloc, claim, state)?))),
+            Rule::Age => Ok(Some(Shortfall::Age(age_gap(claim, state)))),
+            Rule::Ttl => Ok(Some(Shortfall::Ttl(ttl_gap(claim, state)))),
         }
     }
 
@@ -104,51 +108,59 @@ impl Shortfall {
         }
     }
 
-    /// A word for it, as `fields`.
-    pub(crate) fn kind(&self) -> &'static str {
+    /// A word for it, as `fields`, and words, as `nothing permits stale`, where these are always the same.
+    pub(crate) fn words(&self) -> (&'static str, &'static str) {
         match self {
-            Shortfall::Asked => "other_method",
-            Shortfall::Selected(_) => "unselected",
-            Shortfall::Valid => "invalidated",
-            Shortfall::Lifetime(_) | Shortfall::Use(_) => "unusable",
-            Shortfall::Body(gap) => gap.kind(),
-            Shortfall::Fields(_) => "fields",
-            Shortfall::Age(_) if self.off().is_none() => "age_missing",
-            Shortfall::Age(_) => "age_off",
-            Shortfall::Ttl(_) => "seconds_off",
+            Shortfall::Asked => ("other_method", "the request is neither GET nor HEAD"),
+            Shortfall::Selected(_) => ("unselected", ""),
+            Shortfall::Valid => ("invalidated", "no 304 since"),
+            Shortfall::Lifetime(usage) | Shortfall::Use(usage) => (
+                "unusable",
+                usage.forbidden.words(),
+            ),
+            Shortfall::Body(gap) => (gap.kind(), ""),
+            Shortfall::Fields(_) => ("fields", ""),
+            Shortfall::Age(gap) => match gap.off() {
+                None => ("age_missing", "no Age"),
+                Some((_, true)) => ("age_off", "Age too low"),
+                Some((_, false)) => ("age_off", "Age too high"),
+            },
+            Shortfall::Ttl(gap) => match gap.off() {
+                Some((_, true)) => ("seconds_off", "ttl too low"),
+                _ => ("seconds_off", "ttl too high"),
+            },
         }
     }
 
-    /// Writes words for it, as `dropped x-validated, changed date` or `nothing permits stale`.
+    /// Writes words for it that aren't always the same, as `dropped x-validated, changed date`.
     pub(crate) fn name(&self, page: &mut Page) {
-        let is_low = matches!(self.off(), Some((_, true)));
         match self {
-            Shortfall::Asked => page.words("the request is neither GET nor HEAD"),
             Shortfall::Selected(selection) => selection.name(page),
-            Shortfall::Valid => page.words("no 304 since"),
-            Shortfall::Lifetime(usage) | Shortfall::Use(usage) => {
-                page.words(usage.forbidden.words());
-            }
             Shortfall::Body(gap) => gap.name(page),
             Shortfall::Fields(differences) => differences.name(page),
-            Shortfall::Age(_) if self.off().is_none() => page.words("no Age"),
-            Shortfall::Age(_) if is_low => page.words("Age too low"),
-            Shortfall::Age(_) => page.words("Age too high"),
-            Shortfall::Ttl(_) if is_low => page.words("ttl too low"),
-            Shortfall::Ttl(_) => page.words("ttl too high"),
+            _ => {}
         }
     }
 
-    /// The setting by which the response may be used, if there is one.
-    pub(crate) fn setting(&self) -> Option<Setting> {
+    /// What forbids to use the response, if that is what is wrong.
+    pub(crate) fn usage(&self) -> Option<&Usage> {
         match self {
-            Shortfall::Lifetime(usage) | Shortfall::Use(usage) => usage.setting,
+            Shortfall::Lifetime(usage) | Shortfall::Use(usage) => Some(usage),
+            _ => None,
+        }
+    }
+
+    /// The fields in which the reply differs, if these are what is wrong.
+    pub fn differences(&self) -> Option<&Differences> {
+        match self {
+            Shortfall::Fields(differences) => Some(differences),
             _ => None,
         }
     }
 }
 
 /// The response that is named: of those that get furthest the one with the reply's body, or else the newest.
+#[derive(Drop)]
 pub struct Nearest<'a> {
     /// The position of its record.
     pub position: u64,
@@ -156,33 +168,6 @@ pub struct Nearest<'a> {
     pub state: &'a Stored,
     /// In what it falls short; nothing where it keeps all rules.
     pub shortfall: Option<Shortfall>,
-}
-
-impl Drop for Nearest<'_> {
-    fn drop(self) {
-        let Nearest {
-            position: _,
-            state: _,
-            shortfall,
-        } = self;
-        drop(shortfall);
-    }
-}
-
-// In what the response falls short that breaks that rule, if it breaks one.
-fn shortfall_by(
-    alloc: Global,
-    claim: &ReplyClaim<'_>,
-    state: &Stored,
-    rule: Option<Rule>,
-) -> Result<Option<Shortfall>, AllocError>
-    ensures rule { IfOk result (λ found. option_map rule_of found ≡ rule) }
-    ensures told { IfOk result (λ found. IfSome found (IsShortfall claim.now state.now)) }
-{
-    match rule {
-        Some(rule) => Ok(Some(Shortfall::read(alloc, claim, state, rule)?)),
-        None => Ok(None),
-    }
 }
 
 impl<'a> Nearest<'a> {
@@ -206,18 +191,8 @@ impl<'a> Nearest<'a> {
         Ok(Some(Nearest {
             position: candidate.position,
             state,
-            shortfall: shortfall_by(alloc, claim, state, rule)?,
+            shortfall: Shortfall::read(alloc, claim, state, rule)?,
         }))
-    }
-
-    /// In what it falls short, which is moved.
-    pub fn into_shortfall(self) -> Option<Shortfall> {
-        let Nearest {
-            position: _,
-            state: _,
-            shortfall,
-        } = self;
-        shortfall
     }
 
     /// The first rule that it breaks; none where it keeps all.
@@ -225,22 +200,6 @@ impl<'a> Nearest<'a> {
         match &self.shortfall {
             Some(shortfall) => Some(shortfall.rule()),
             None => None,
-        }
-    }
-
-    /// The position of the record from which on it is as it is: its own, or that of the 304 that freshened it
-    /// last.
-    pub(crate) fn settled_at(&self) -> u64 {
-        self.state.validated_at.unwrap_or(self.position)
-    }
-
-    /// The moment that its Date shows, where that isn't the one at which it came.
-    pub(crate) fn own_date(&self) -> Option<u64> {
-        let times = self.state.times;
-        if times.date == times.response_time {
-            None
-        } else {
-            Some(times.date)
         }
     }
 
@@ -253,45 +212,16 @@ impl<'a> Nearest<'a> {
     pub(crate) fn is_whole(&self) -> bool {
         !self.state.invalid || self.has_validator()
     }
-
-    /// The setting by which it may be used, where it may not be used without, and there is one.
-    pub(crate) fn setting(&self) -> Option<Setting> {
-        match &self.shortfall {
-            Some(shortfall) => shortfall.setting(),
-            None => None,
-        }
-    }
-
-    /// The fields in which it falls short, if these are what is wrong.
-    pub fn differences(&self) -> Option<&Differences> {
-        match &self.shortfall {
-            Some(Shortfall::Fields(differences)) => Some(differences),
-            _ => None,
-        }
-    }
-
-    // The reason of the rule that it breaks; that of a collapsed reply where it breaks none that such a one keeps.
-    pub(crate) fn reason(&self) -> Reason {
-        match self.breaks() {
-            Some(rule) => rule.reason(),
-            None => Reason::NotCollapsible,
-        }
-    }
 }
 
-/// What an audit would find of a reply with the setting by which the response that is named may be used, if there is one.
-pub(crate) fn found_with_setting<I: Index>(
-    alloc: Global,
-    judged: &JudgedReply<'_, I>,
-    nearest: Option<&Nearest<'_>>,
-) -> Result<Option<Finding>, AllocError> {
-    let Some(nearest) = nearest else {
-        return Ok(None);
-    };
-    match nearest.setting() {
-        Some(setting) => Ok(Some(found_with(alloc, judged, setting)?)),
-        None => Ok(None),
-    }
+/// In what that response falls short, if there is one, and it does.
+pub(crate) fn shortfall_of<'n>(nearest: Option<&'n Nearest<'_>>) -> Option<&'n Shortfall> {
+    nearest?.shortfall.as_ref()
+}
+
+/// The setting by which it may be used, where it may not be used without, and there is one.
+pub(crate) fn setting_of(nearest: Option<&Nearest<'_>>) -> Option<Setting> {
+    shortfall_of(nearest)?.usage()?.setting
 }
 
 // Whether the response at that position has the body of the reply.
@@ -358,18 +288,12 @@ pub struct Reach {
 }
 
 /// Responses, the one that gets furthest first, and how many more there are.
+#[derive(Drop)]
 pub struct Reaches {
     /// At most so many as are named.
     pub named: Vec<Reach>,
     /// How many more there are.
     pub more: u64,
-}
-
-impl Drop for Reaches {
-    fn drop(self) {
-        let Reaches { named, more: _ } = self;
-        drop(named);
-    }
 }
 
 impl Reaches {
@@ -381,8 +305,8 @@ impl Reaches {
         }
     }
 
-    // Adds a response, which gets no further than the others.
-    fn push(&mut self, candidate: &Candidate) -> Result<(), AllocError> {
+    /// Adds a response, which gets no further than the others.
+    pub(crate) fn push(&mut self, candidate: &Candidate) -> Result<(), AllocError> {
         if NAMED <= self.named.len() {
             self.more = self.more.saturating_add(1);
             return Ok(());
@@ -402,37 +326,5 @@ impl Reaches {
             }
         }
         false
-    }
-
-    /// Lists those candidates after a position, the one that is named first.
-    pub(crate) fn list_after(
-        &mut self,
-        candidates: &[Candidate],
-        named: Option<Candidate>,
-        bound: u64,
-    ) -> Result<(), AllocError> {
-        if let Some(named) = &named {
-            self.push(named)?;
-        }
-        for candidate in candidates {
-            if bound < candidate.position && named != Some(*candidate) {
-                self.push(candidate)?;
-            }
-        }
-        Ok(())
-    }
-
-    /// Lists those up to it.
-    pub(crate) fn list_before(
-        &mut self,
-        candidates: &[Candidate],
-        bound: u64,
-    ) -> Result<(), AllocError> {
-        for candidate in candidates {
-            if candidate.position <= bound {
-                self.push(candidate)?;
-            }
-        }
-        Ok(())
     }
 }

@@ -1,9 +1,9 @@
 //! In what the response that is named falls short, as it is told.
 
 use crate::explaining::Explanation;
+use crate::past::fields_of;
 use crate::shortfalls::{Nearest, Shortfall};
 use crate::unstored::NO_GET;
-use hc_fields::Fields;
 use hc_gaps::{AgeOrigin, Aged, Differences, FieldsOrigin, Selection, Usage};
 use hc_history::Finding;
 use hc_shown::{RecordName, Teller};
@@ -16,10 +16,10 @@ impl<'a> Explanation<'a> {
 
     // What the age of the response is counted from.
     fn age_origin(&self, nearest: &Nearest<'_>) -> AgeOrigin {
-        let (validator, sent) = match (nearest.state.validated_at, self.changes.validator) {
-            (None, _) => (None, self.sent_of(nearest)),
-            (Some(_), Some(validator)) => (Some(validator.record), validator.sent),
-            (Some(_), None) => (None, None),
+        let (validator, sent) = match self.ends.validator {
+            Some(validator) => (Some(validator.record), validator.sent),
+            None if nearest.state.validated_at.is_some() => (None, None),
+            None => (None, self.sent_of(nearest)),
         };
         AgeOrigin {
             validator,
@@ -31,7 +31,7 @@ impl<'a> Explanation<'a> {
 
     // The response, where it came with an Age, and a 304 freshened it.
     fn aged(&self, nearest: &Nearest<'_>) -> Option<Aged> {
-        let validator = self.changes.validator?;
+        let validator = self.ends.validator?;
         if !self.source(nearest.position)?.has(b"age") {
             return None;
         }
@@ -43,30 +43,24 @@ impl<'a> Explanation<'a> {
 
     // What the fields of the response come from.
     pub(crate) fn fields_origin(&self, nearest: &Nearest<'_>) -> FieldsOrigin<'a> {
-        let validator = match (self.changes.validator, self.changes.renewed()) {
-            (Some(validator), Some(renewed)) => Some((validator.record, renewed)),
-            _ => None,
-        };
+        let validator = self.ends.validator;
         FieldsOrigin {
-            validator,
+            validator: match (validator, fields_of(validator)) {
+                (Some(validator), Some(renewed)) => Some((validator.record, renewed)),
+                _ => None,
+            },
             position: nearest.position,
-            first: self.first_fields(nearest),
+            first: fields_of(self.source(nearest.position)),
         }
-    }
-
-    // The fields with which the response came.
-    fn first_fields(&self, nearest: &Nearest<'_>) -> Option<&'a Fields> {
-        self.source(nearest.position)?.fields()
     }
 
     // Whether Expires alone says the lifetime of the response, which is as it came.
     fn is_by_expires(&self, nearest: &Nearest<'_>) -> bool {
-        match self.source(nearest.position) {
-            Some(source) if nearest.state.validated_at.is_none() => {
-                !source.has(b"cache-control") && source.has(b"expires")
-            }
-            _ => false,
-        }
+        let Some(source) = self.source(nearest.position) else {
+            return false;
+        };
+        let is_as_it_came = nearest.state.validated_at.is_none();
+        is_as_it_came && !source.has(b"cache-control") && source.has(b"expires")
     }
 
     // Tells by which members of its Vary the response doesn't answer the request.
@@ -78,7 +72,7 @@ impl<'a> Explanation<'a> {
     ) {
         let place = (nearest.position, self.sent_of(nearest));
         selection.tell(&self.claim, nearest.state, place, teller);
-        match self.changes.validator {
+        match self.ends.validator {
             Some(validator) if self.was_validated(nearest) => {
                 teller.record(", though the 304 ", validator.record);
                 teller.words(" validated it");
@@ -93,7 +87,7 @@ impl<'a> Explanation<'a> {
         match shortfall {
             Shortfall::Asked => teller.method("method", "", &claim.request.method, NO_GET),
             Shortfall::Selected(selection) => self.tell_selection(nearest, selection, teller),
-            Shortfall::Valid => self.changes.tell_invalidators(teller),
+            Shortfall::Valid => self.ends.tell_invalidators(teller),
             Shortfall::Lifetime(usage) | Shortfall::Use(usage) => {
                 let had_error = claim.has_error || claim.has_failure;
                 usage.tell(had_error, self.age_origin(nearest), teller);
@@ -106,25 +100,6 @@ impl<'a> Explanation<'a> {
                 gap.tell(&claim.reply.head.fields, self.age_origin(nearest), teller);
             }
             Shortfall::Ttl(gap) => gap.tell(teller),
-        }
-    }
-
-    // Tells that no 304 is about the response, where it should be valid, or validated, or there are some.
-    fn tell_validations<T: Teller>(
-        &self,
-        nearest: &Nearest<'_>,
-        shortfall: &Shortfall,
-        teller: &mut T,
-    ) {
-        let since = self.claim.since;
-        self.changes.tell_not_about(nearest, since, teller);
-        if !self.changes.not_about.is_empty() {
-            return;
-        }
-        match shortfall {
-            Shortfall::Valid => teller.words("; no 304 of this target since"),
-            Shortfall::Lifetime(_) | Shortfall::Use(_) => self.say_none(teller),
-            _ => {}
         }
     }
 
@@ -159,7 +134,8 @@ impl<'a> Explanation<'a> {
         }
     }
 
-    /// Tells in what the response that is named falls short.
+    /// Tells in what the response that is named falls short, and that no 304 is about it, where it should be valid, or validated, or
+    /// there are some.
     pub fn tell_shortfall<T: Teller>(
         &self,
         nearest: &Nearest<'_>,
@@ -167,10 +143,16 @@ impl<'a> Explanation<'a> {
         teller: &mut T,
     ) {
         self.tell_gap(nearest, shortfall, teller);
-        self.tell_validations(nearest, shortfall, teller);
-        match shortfall {
-            Shortfall::Lifetime(usage) | Shortfall::Use(usage) => self.say_setting(usage, teller),
-            _ => {}
+        self.tell_not_about(nearest, teller);
+        let is_none = self.ends.not_about.is_empty();
+        if is_none && matches!(shortfall, Shortfall::Valid) {
+            teller.words("; no 304 of this target since");
+        }
+        if let Some(usage) = shortfall.usage() {
+            if is_none {
+                self.say_none(teller);
+            }
+            self.say_setting(usage, teller);
         }
     }
 

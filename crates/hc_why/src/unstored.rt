@@ -1,117 +1,93 @@
 //! Why nothing of a target is stored (RFC 9111 section 3).
 
-use crate::past::{End, Past, Unstorable};
-use crate::sources::say_lifetime;
-use hc_gaps::Newest;
+use crate::past::{End, Past};
+use crate::sources::tell_lifetime;
+use hc_gaps::{Forbids, Newest};
 use hc_head::{Method, is_get, is_get_or_head};
 use hc_history::ReplyClaim;
-use hc_shown::{Page, Teller};
+use hc_shown::Teller;
 
 /// What is said of a method whose replies come from no store.
 pub(crate) const NO_GET: &str = " is neither GET nor HEAD";
 
 /// Why no response comes out of a store.
 #[derive(Clone, Copy)]
-pub struct Unstored {
-    /// Whether the method of the request is neither GET nor HEAD.
-    pub(crate) has_other_method: bool,
-    /// The latest response of the target that may not be stored, if it is remembered.
-    pub(crate) latest: Option<Unstorable>,
-    // Whether more was recorded than is remembered.
-    is_forgotten: bool,
+pub enum Unstored {
+    /// The method of the request is neither GET nor HEAD.
+    OtherMethod,
+    /// That forbids to store the latest response of the target that may not be stored.
+    Forbidden(Forbids),
+    /// More was recorded than is remembered.
+    Forgotten,
+    /// No response of the target is recorded.
+    Unrecorded,
 }
 
 impl Unstored {
     /// What is remembered of why no response of the target is stored, where none is.
     pub(crate) fn read(claim: &ReplyClaim<'_>, past: &Past) -> Self {
-        let latest = past.latest_unstorable(claim.target);
-        Unstored {
-            has_other_method: !is_get_or_head(&claim.request.method),
-            latest,
-            is_forgotten: latest.is_none() && past.has_forgotten_target(),
+        if !is_get_or_head(&claim.request.method) {
+            return Unstored::OtherMethod;
+        }
+        match past.forbidden.peek(claim.target) {
+            Some(forbids) => Unstored::Forbidden(*forbids),
+            None if past.has_forgotten_target => Unstored::Forgotten,
+            None => Unstored::Unrecorded,
         }
     }
 
     /// Whether nothing is recorded.
     pub fn is_unrecorded(&self) -> bool {
-        !self.has_other_method && self.latest.is_none() && !self.is_forgotten
+        matches!(self, Unstored::Unrecorded)
     }
 
-    // A word for it, and words.
-    fn words(&self) -> (&'static str, &'static str) {
-        if self.has_other_method {
-            ("other_method", "the request is neither GET nor HEAD")
-        } else if self.latest.is_some() {
-            ("not_stored", "the latest response must not be stored: ")
-        } else if self.is_forgotten {
-            ("forgotten", "more was recorded than is remembered")
-        } else {
-            ("nothing_recorded", "no response of the target is recorded")
+    /// A word for it, and words.
+    pub(crate) fn words(&self) -> (&'static str, &'static str) {
+        match self {
+            Unstored::OtherMethod => ("other_method", "the request is neither GET nor HEAD"),
+            Unstored::Forbidden(_) => ("not_stored", "the latest response must not be stored: "),
+            Unstored::Forgotten => ("forgotten", "more was recorded than is remembered"),
+            Unstored::Unrecorded => ("nothing_recorded", "no response of the target is recorded"),
         }
-    }
-
-    /// A word for it.
-    pub(crate) fn kind(&self) -> &'static str {
-        self.words().0
-    }
-
-    /// Writes words for it.
-    pub(crate) fn name(&self, page: &mut Page) {
-        page.words(self.words().1);
-        match self.latest {
-            Some(latest) if !self.has_other_method => latest.forbids.tell(false, page),
-            _ => {}
-        }
-    }
-}
-
-impl End {
-    /// Whether it is a response of the target after that position which may not be stored.
-    pub(crate) fn is_unstorable_after(&self, claim: &ReplyClaim<'_>, bound: u64) -> bool {
-        bound < self.record.position && self.is_of(claim.target) && self.unstorable().is_some()
     }
 }
 
 // Tells which forward a response answers, and its method where that isn't GET.
 fn say_asked<T: Teller>(end: &End, teller: &mut T) {
-    let Some(sent) = end.sent else {
-        return;
-    };
-    if is_get(&end.method) {
-        return teller.record(", the answer to ", sent);
+    match end.sent {
+        Some(sent) if !is_get(&end.method) => {
+            teller.said_octets(", the answer to the ", end.method.as_slice(), " ");
+            teller.record("", sent);
+        }
+        _ => end.say_sent(teller),
     }
-    teller.said_octets(", the answer to the ", end.method.as_slice(), " ");
-    teller.record("", sent);
 }
 
-impl Unstorable {
-    // Tells the response, what it is, and what forbids to store it.
-    fn tell<T: Teller>(&self, end: &End, teller: &mut T) {
-        teller.place(self.record);
-        teller.record("", self.record);
-        teller.number("status", " (", u64::from(self.status.as_u16()), "");
-        if let Some(heads) = end.heads() {
-            say_lifetime(&heads.response.fields, teller);
-        }
-        say_asked(end, teller);
-        teller.words("), since ");
-        let mut forbidden = teller.page();
-        self.forbids.tell(teller.is_text(), &mut forbidden);
-        teller.said("forbidden", forbidden);
+// Tells a response, what it is, and what forbids to store it.
+fn tell_forbidden<T: Teller>(end: &End, forbids: &Forbids, teller: &mut T) {
+    teller.place(end.record);
+    teller.record("", end.record);
+    end.tell_status("status", " (", teller);
+    match &end.heads {
+        Some(heads) if teller.is_text() => tell_lifetime(&heads.response.fields, teller),
+        _ => {}
     }
+    say_asked(end, teller);
+    teller.words("), since ");
+    let mut forbidden = teller.page();
+    forbids.tell(teller.is_text(), &mut forbidden);
+    teller.said("forbidden", forbidden);
 }
 
 /// Tells the responses that may not be stored after a text, if there are any.
-pub(crate) fn tell_unstorable<T: Teller>(before: &str, ends: &Newest<&End>, teller: &mut T) {
+pub fn tell_unstored<T: Teller>(before: &str, ends: &Newest<&End>, teller: &mut T) {
     teller.begin_list("recorded");
-    let mut is_first = true;
-    for end in ends.named.iter() {
-        if let Some(unstorable) = end.unstorable() {
-            teller.separator(is_first, before, "; ");
+    for (place, end) in ends.named.iter().enumerate() {
+        if let Some(forbids) = &end.forbids {
+            teller.separator(place == 0, before, "; ");
             teller.begin_item();
-            unstorable.tell(end, teller);
+            tell_forbidden(end, forbids, teller);
             teller.end();
-            is_first = false;
         }
     }
     teller.end();
@@ -121,7 +97,7 @@ pub(crate) fn tell_unstorable<T: Teller>(before: &str, ends: &Newest<&End>, tell
 impl Unstored {
     /// Tells why no response of the target comes out of a store for a request of that method, of which those may not be stored.
     pub fn tell<T: Teller>(&self, method: &Method, ends: &Newest<&End>, teller: &mut T) {
-        if self.has_other_method {
+        if matches!(self, Unstored::OtherMethod) {
             teller.said_octets("", method.as_slice(), NO_GET);
             if teller.is_text() {
                 return;
@@ -132,6 +108,6 @@ impl Unstored {
             );
         }
         let before = "what is recorded of the target must not be stored: ";
-        tell_unstorable(before, ends, teller);
+        tell_unstored(before, ends, teller);
     }
 }

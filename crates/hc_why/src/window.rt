@@ -4,18 +4,18 @@ use crate::past::{End, Past};
 use hc_gaps::{BodyGap, Newest, body_gap};
 use hc_head::{Method, StatusCode, is_get, is_head};
 use hc_history::{ReplyClaim, may_be_for};
-use hc_shown::{Page, Teller};
+use hc_shown::Teller;
 use hc_transcript::ToldCause;
 
 /// In what the end of a forward differs first from what a reply carries.
 #[derive(Clone, Copy)]
-pub(crate) enum Apart<'a> {
+enum Apart {
     /// It is a failure.
     Failure,
     /// It was made for another exchange, or for none, and has this status.
     Cause(StatusCode),
-    /// It answers another method, this one.
-    Method(&'a Method),
+    /// It answers another method.
+    Method,
     /// The reply is a part of a response, or says that there is no such part: this is the whole.
     Part(StatusCode),
     /// It is a 304, by which a stored response may be freshened and given.
@@ -28,21 +28,6 @@ pub(crate) enum Apart<'a> {
     Nothing,
 }
 
-/// What the window holds that may have been made for the reply.
-#[derive(Clone, Copy, PartialEq, Eq)]
-enum Held {
-    /// Nothing.
-    Nothing,
-    /// Failures alone.
-    Failures,
-    /// Responses, of which the latest is the whole of which the reply may be a part.
-    Part,
-    /// Responses, of which the latest is a 304.
-    NotModified,
-    /// Other responses.
-    Responses,
-}
-
 /// What came between a request and its reply.
 #[derive(Clone, Copy)]
 pub struct Window {
@@ -50,8 +35,8 @@ pub struct Window {
     has_near: bool,
     // Whether a response of the target is there.
     has_response: bool,
-    // What of those of the target may have been made for the reply.
-    held: Held,
+    // The latest response of the target that may have been made for the reply, or else a failure.
+    latest: Option<Apart>,
     // Whether more was recorded than is remembered.
     is_forgotten: bool,
 }
@@ -62,46 +47,41 @@ pub(crate) fn asks_the_same(claim: &ReplyClaim<'_>, method: &Method) -> bool {
     method == asked || (is_head(asked) && is_get(method))
 }
 
-// In what the status of a response differs from that of the reply.
-fn apart_by_status<'a>(claim: &ReplyClaim<'_>, status: StatusCode) -> Apart<'a> {
-    let told = claim.reply.head.status;
-    let is_part = told == StatusCode::PARTIAL_CONTENT || told == StatusCode::RANGE_NOT_SATISFIABLE;
-    if status == StatusCode::NOT_MODIFIED {
-        Apart::NotModified
-    } else if is_part && status == StatusCode::OK {
-        Apart::Part(status)
-    } else {
-        Apart::Status(status)
-    }
-}
-
-// In what that body differs from the reply's; of one that isn't remembered that isn't known.
-fn apart_by_body<'a>(claim: &ReplyClaim<'_>, body: Option<&[u8]>) -> Apart<'a> {
-    let Some(body) = body else {
-        return Apart::Body(None);
-    };
-    match body_gap(&claim.request.method, claim.reply.body.as_slice(), body) {
-        Some(gap) => Apart::Body(Some(gap)),
-        None => Apart::Nothing,
-    }
+/// Whether a reply of that status is a part, or says that there is none.
+pub(crate) fn is_of_part(status: StatusCode) -> bool {
+    status == StatusCode::PARTIAL_CONTENT || status == StatusCode::RANGE_NOT_SATISFIABLE
 }
 
 impl End {
-    /// In what it differs first from what the reply carries.
-    pub(crate) fn apart(&self, claim: &ReplyClaim<'_>) -> Apart<'_> {
-        let Some(status) = self.status() else {
+    // In what it differs first from what the reply carries.
+    fn apart(&self, claim: &ReplyClaim<'_>) -> Apart {
+        let Some(status) = self.status else {
             return Apart::Failure;
         };
         if !may_be_for(self.cause, claim.exchange) {
             return Apart::Cause(status);
         }
         if !asks_the_same(claim, &self.method) {
-            return Apart::Method(&self.method);
+            return Apart::Method;
         }
-        if status != claim.reply.head.status {
-            return apart_by_status(claim, status);
+        let status_told = claim.reply.head.status;
+        if status != status_told && status == StatusCode::NOT_MODIFIED {
+            return Apart::NotModified;
         }
-        apart_by_body(claim, self.body())
+        if status == StatusCode::OK && is_of_part(status_told) {
+            return Apart::Part(status);
+        }
+        if status != status_told {
+            return Apart::Status(status);
+        }
+        let Some(body) = &self.body else {
+            return Apart::Body(None);
+        };
+        let told = claim.reply.body.as_slice();
+        match body_gap(&claim.request.method, told, body.as_slice()) {
+            Some(gap) => Apart::Body(Some(gap)),
+            None => Apart::Nothing,
+        }
     }
 
     /// Whether it stands in the window, and the reply would carry it, if the host of its target were that of the reply's.
@@ -113,100 +93,57 @@ impl End {
     }
 }
 
-impl Apart<'_> {
-    // What the window holds with it after what it held, where its forward may have been made for the reply.
-    fn held_after(&self, held: Held) -> Held {
-        match self {
-            Apart::Failure if held == Held::Nothing => Held::Failures,
-            Apart::Failure | Apart::Cause(_) => held,
-            Apart::Part(_) => Held::Part,
-            Apart::NotModified => Held::NotModified,
-            _ => Held::Responses,
-        }
-    }
-
-    // A word for it.
-    fn name(&self) -> &'static str {
-        match self {
-            Apart::Failure => "failure",
-            Apart::Cause(_) => "cause",
-            Apart::Method(_) => "method",
-            Apart::Part(_) => "part",
-            Apart::NotModified => "not_modified",
-            Apart::Status(_) => "status",
-            Apart::Body(_) => "body",
-            Apart::Nothing => "nothing",
-        }
-    }
-}
-
 impl Window {
     /// What is remembered of the window of a reply.
     pub(crate) fn read(claim: &ReplyClaim<'_>, past: &Past) -> Self {
         let mut window = Window {
             has_near: false,
             has_response: false,
-            held: Held::Nothing,
-            is_forgotten: past.has_forgotten_after(claim.since),
+            latest: None,
+            is_forgotten: claim.since < past.forgotten,
         };
-        for end in past.ends().iter() {
-            window.take(claim, end);
+        for end in past.ends.iter() {
+            if end.is_in_window(claim) {
+                window.take(claim, end);
+            } else if end.is_near(claim) {
+                window.has_near = true;
+            }
         }
         window
     }
 
-    // Takes in the end of a forward.
-    fn take(&mut self, claim: &ReplyClaim<'_>, end: &End) {
-        if end.is_in_window(claim) {
-            self.take_end(claim, end);
-        } else if end.is_near(claim) {
-            self.has_near = true;
-        }
-    }
-
     // Takes in the end of a forward of the target.
-    fn take_end(&mut self, claim: &ReplyClaim<'_>, end: &End) {
-        if may_be_for(end.cause, claim.exchange) {
-            self.held = end.apart(claim).held_after(self.held);
+    fn take(&mut self, claim: &ReplyClaim<'_>, end: &End) {
+        let is_later = end.status.is_some() || self.latest.is_none();
+        if is_later && may_be_for(end.cause, claim.exchange) {
+            self.latest = Some(end.apart(claim));
         }
-        self.has_response = self.has_response || end.answer.is_some();
+        self.has_response = self.has_response || end.status.is_some();
     }
 
-    // A word for what it holds, and words for it.
-    fn words(&self) -> (&'static str, &'static str) {
-        match self.held {
-            Held::Part => ("part", "the whole of which it may be a part in the window"),
-            Held::NotModified => ("not_modified", "a 304 in the window"),
-            Held::Responses => ("other_answer", "other responses in the window"),
-            _ if self.is_forgotten => ("forgotten", "more was recorded than is remembered"),
-            Held::Failures => ("only_failures", "only failures in the window"),
-            Held::Nothing => ("no_answer", "no response in the window"),
-        }
-    }
-
-    /// A word for what it holds, as `other_answer`.
-    pub(crate) fn kind(&self) -> &'static str {
+    // A word for what it holds, as `other_answer`, and words for it, which the host of a response of another one follows.
+    pub(crate) fn words(&self) -> (&'static str, &'static str) {
         if self.has_near {
-            "other_host"
-        } else {
-            self.words().0
+            return ("other_host", "the response of host ");
         }
-    }
-
-    /// Writes words for what it holds, of which the latest response of another host is that, if there is one.
-    pub(crate) fn name(&self, near: Option<&End>, page: &mut Page) {
-        if let Some(near) = near {
-            let host = near.target.host.as_slice();
-            return page.said_octets("the response of host ", host, "");
+        match self.latest {
+            Some(Apart::Part(_)) => ("part", "the whole of which it may be a part in the window"),
+            Some(Apart::NotModified) => ("not_modified", "a 304 in the window"),
+            Some(Apart::Failure) | None if self.is_forgotten => (
+                "forgotten",
+                "more was recorded than is remembered",
+            ),
+            Some(Apart::Failure) => ("only_failures", "only failures in the window"),
+            None => ("no_answer", "no response in the window"),
+            Some(_) => ("other_answer", "other responses in the window"),
         }
-        page.words(self.words().1);
     }
 }
 
 /// The latest response in the window of the same path under another host that the reply would carry.
 pub(crate) fn latest_near<'a>(claim: &ReplyClaim<'_>, past: &'a Past) -> Option<&'a End> {
     let mut latest = None;
-    for end in past.ends().iter() {
+    for end in past.ends.iter() {
         if end.is_near(claim) {
             latest = Some(end);
         }
@@ -226,12 +163,8 @@ fn tell_cause<T: Teller>(cause: ToldCause, teller: &mut T) {
     teller.some("cause", None);
 }
 
-// Tells that a body is another one, and where both first differ.
-fn tell_body<T: Teller>(gap: Option<BodyGap>, teller: &mut T) {
-    teller.words(" has another body");
-    let Some(gap) = gap else {
-        return;
-    };
+// Tells where two bodies differ first, and how long they are.
+fn tell_body<T: Teller>(gap: &BodyGap, teller: &mut T) {
     gap.tell(teller);
     teller.count(" (", gap.due, " octets, the reply's ");
     teller.count("", gap.told, "");
@@ -241,42 +174,49 @@ fn tell_body<T: Teller>(gap: Option<BodyGap>, teller: &mut T) {
     teller.words(")");
 }
 
-impl Apart<'_> {
-    // Tells in what the end of a forward differs from what the reply carries.
-    fn tell<T: Teller>(&self, teller: &mut T) {
-        teller.word("apart", self.name());
+impl Apart {
+    // A word for it, and words.
+    fn words(&self) -> (&'static str, &'static str) {
         match self {
-            Apart::Failure => {}
+            Apart::Failure => ("failure", ""),
+            Apart::Cause(_) => ("cause", " is "),
+            Apart::Method => ("method", " answers "),
+            Apart::Part(_) => ("part", " is "),
+            Apart::NotModified => ("not_modified", " is 304"),
+            Apart::Status(_) => ("status", " is "),
+            Apart::Body(_) => ("body", " has another body"),
+            Apart::Nothing => ("nothing", " is carried"),
+        }
+    }
+
+    // Tells in what that end of a forward differs from what the reply carries.
+    fn tell<T: Teller>(&self, end: &End, teller: &mut T) {
+        let (name, words) = self.words();
+        teller.word("apart", name);
+        teller.words(words);
+        match self {
             Apart::Cause(status) | Apart::Status(status) | Apart::Part(status) => {
-                teller.count(" is ", u64::from(status.as_u16()), "");
+                teller.count("", u64::from(status.as_u16()), "");
             }
-            Apart::NotModified => teller.words(" is 304"),
-            Apart::Method(method) => teller.said_octets(" answers ", method.as_slice(), ""),
-            Apart::Body(gap) => tell_body(*gap, teller),
-            Apart::Nothing => teller.words(" is carried"),
+            Apart::Method => teller.said_octets("", end.method.as_slice(), ""),
+            Apart::Body(Some(gap)) => tell_body(gap, teller),
+            _ => {}
         }
     }
 }
 
 impl Window {
     /// Tells each end of a forward in it, and what it holds if these are all failures.
-    pub(crate) fn tell<T: Teller>(
-        &self,
-        claim: &ReplyClaim<'_>,
-        ends: &Newest<&End>,
-        teller: &mut T,
-    ) {
+    pub fn tell<T: Teller>(&self, claim: &ReplyClaim<'_>, ends: &Newest<&End>, teller: &mut T) {
         teller.begin_list("window");
-        let mut is_first = true;
-        for end in ends.named.iter() {
-            teller.separator(is_first, "", ", ");
+        for (place, end) in ends.named.iter().enumerate() {
+            teller.separator(place == 0, "", ", ");
             teller.begin_item();
             teller.place(end.record);
             teller.record("", end.record);
             tell_cause(end.cause, teller);
-            end.apart(claim).tell(teller);
+            end.apart(claim).tell(end, teller);
             teller.end();
-            is_first = false;
         }
         teller.end();
         teller.more("more_in_window", ends.older);
@@ -287,10 +227,12 @@ impl Window {
     fn say_failures<T: Teller>(&self, ends: &Newest<&End>, teller: &mut T) {
         if ends.is_empty() {
             teller.words("no forward of the target ended between request and reply");
-        } else if !self.has_response && ends.is_one() {
-            teller.words(": a failure, no response");
         } else if !self.has_response {
-            teller.words(": failures, no response");
+            teller.words(if ends.is_one() {
+                ": a failure, no response"
+            } else {
+                ": failures, no response"
+            });
         }
     }
 }

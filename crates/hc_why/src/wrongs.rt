@@ -8,7 +8,7 @@ ghost use Rattle.hc_history.specs.Seen.{IsSeenAs};
 ghost use Rattle.hc_why.specs.Naming.{IsNamed};
 
 use crate::past::{End, Past};
-use crate::shortfalls::{Nearest, Shortfall, named};
+use crate::shortfalls::{Nearest, Shortfall, named, shortfall_of};
 use crate::unstored::Unstored;
 use crate::window::{Window, latest_near};
 use hc_gaps::Differences;
@@ -18,9 +18,6 @@ use hc_index::Index;
 use hc_shown::{Page, Teller};
 use hc_status::{MarkFault, mark};
 use std::alloc::{AllocError, Global};
-
-/// The position after which every response lies.
-const ANYWHERE: u64 = 0;
 
 /// Why a reply counts as one without a mark.
 #[derive(Clone, Copy, PartialEq, Eq)]
@@ -54,43 +51,29 @@ pub enum Why {
 }
 
 /// What is wrong with a reply, and the response that is named, if one is.
+#[derive(Drop)]
 pub struct Wrong<'a> {
     /// What is wrong.
     pub why: Why,
     /// The response that is named.
     pub nearest: Option<Nearest<'a>>,
     /// The latest response of the same path under another host that a reply would carry which went forward.
-    near: Option<&'a End>,
-}
-
-impl Drop for Wrong<'_> {
-    fn drop(self) {
-        let Wrong {
-            why: _,
-            nearest,
-            near: _,
-        } = self;
-        drop(nearest);
-    }
-}
-
-// Whether the Cache-Status of a reply says that it is a hit.
-fn says_hit(alloc: Global, claim: &ReplyClaim<'_>) -> Result<bool, AllocError> {
-    match mark(alloc, &claim.reply.head.fields) {
-        Ok(mark) => Ok(matches!(mark, Mark::Hit { .. })),
-        Err(MarkFault::Memory) => Err(AllocError),
-    }
+    pub near: Option<&'a End>,
 }
 
 // Why a reply counts as one without a mark.
 fn no_mark(alloc: Global, claim: &ReplyClaim<'_>) -> Result<NoMark, AllocError> {
-    if !claim.reply.head.fields.contains(b"cache-status") {
+    let head = &claim.reply.head;
+    if !head.fields.contains(b"cache-status") {
         return Ok(NoMark::Absent);
     }
-    if claim.reply.head.status == StatusCode::PARTIAL_CONTENT && says_hit(alloc, claim)? {
-        Ok(NoMark::Partial)
-    } else {
-        Ok(NoMark::Silent)
+    if head.status != StatusCode::PARTIAL_CONTENT {
+        return Ok(NoMark::Silent);
+    }
+    match mark(alloc, &head.fields) {
+        Ok(Mark::Hit { .. }) => Ok(NoMark::Partial),
+        Ok(_) => Ok(NoMark::Silent),
+        Err(MarkFault::Memory) => Err(AllocError),
     }
 }
 
@@ -122,6 +105,58 @@ impl Why {
             _ => Ok(Why::Response),
         }
     }
+
+    // A word for it, as `fields`, where that response is named, and words, which others may follow.
+    fn words(&self, nearest: Option<&Nearest<'_>>) -> (&'static str, &'static str) {
+        match self {
+            Why::NoResponse(unstored) => unstored.words(),
+            Why::NotForwarded(window) => window.words(),
+            Why::Unmarked(NoMark::Partial) => ("partial", "a hit of status 206"),
+            Why::Unmarked(_) => ("unmarked", "no mark"),
+            Why::NotCollapsible if nearest.is_some() => (
+                "lacks",
+                "the response after the request fails by ",
+            ),
+            Why::NotCollapsible => ("lacks", "no response after the request"),
+            Why::Response => match shortfall_of(nearest) {
+                Some(shortfall) => shortfall.words(),
+                None => ("nothing", ""),
+            },
+            Why::BothMarks | Why::Unasked => ("nothing", ""),
+        }
+    }
+
+    /// A word for it, as `fields`, where that response is named.
+    pub fn kind(&self, nearest: Option<&Nearest<'_>>) -> &'static str {
+        self.words(nearest).0
+    }
+
+    /// Writes short words for it, as `dropped x-validated, changed date` or `nothing permits stale`, where those are named, if
+    /// there are; none where the reason says all.
+    pub fn name(&self, nearest: Option<&Nearest<'_>>, near: Option<&End>, page: &mut Page) {
+        page.words(self.words(nearest).1);
+        if let Some(near) = near {
+            page.said_octets("", near.target.host.as_slice(), "");
+        }
+        match self {
+            Why::NoResponse(Unstored::Forbidden(forbids)) => forbids.tell(false, page),
+            Why::NotCollapsible => {
+                if let Some(nearest) = nearest {
+                    let reason = match nearest.breaks() {
+                        Some(rule) => rule.reason(),
+                        None => Reason::NotCollapsible,
+                    };
+                    page.words(reason.name());
+                }
+            }
+            Why::Response => {
+                if let Some(shortfall) = shortfall_of(nearest) {
+                    shortfall.name(page);
+                }
+            }
+            _ => {}
+        }
+    }
 }
 
 /// Whether a response is named of a reply that is wrong for that reason.
@@ -149,7 +184,7 @@ impl<'a> Wrong<'a> {
     {
         let since = match reason {
             Reason::NotCollapsible => claim.since,
-            _ => ANYWHERE,
+            _ => 0,
         };
         let named = named(index, claim, candidates, since);
         Ok(Wrong {
@@ -174,7 +209,7 @@ impl<'a> Wrong<'a> {
     /// In what a response falls short, if that is what is wrong.
     pub fn shortfall(&self) -> Option<&Shortfall> {
         match self.why {
-            Why::Response => self.nearest.as_ref()?.shortfall.as_ref(),
+            Why::Response => shortfall_of(self.nearest.as_ref()),
             _ => None,
         }
     }
@@ -186,81 +221,24 @@ impl<'a> Wrong<'a> {
             nearest,
             near: _,
         } = self;
-        match (why, nearest) {
-            (Why::Response, Some(nearest)) => nearest.into_shortfall(),
-            (_, nearest) => {
-                drop(nearest);
-                None
-            }
+        let Nearest {
+            position: _,
+            state: _,
+            shortfall,
+        } = nearest?;
+        match why {
+            Why::Response => shortfall,
+            _ => None,
         }
     }
 
     /// The fields in which a response falls short, if these are what is wrong.
     pub fn differences(&self) -> Option<&Differences> {
-        match self.shortfall() {
-            Some(Shortfall::Fields(differences)) => Some(differences),
-            _ => None,
-        }
+        self.shortfall()?.differences()
     }
 
     /// Whether no response of the target is recorded.
     pub fn is_unrecorded(&self) -> bool {
-        match self.why {
-            Why::NoResponse(unstored) => unstored.is_unrecorded(),
-            _ => false,
-        }
-    }
-
-    /// A word for it, as `fields`.
-    pub fn kind(&self) -> &'static str {
-        kind_of(&self.why, self.nearest.as_ref())
-    }
-
-    /// Writes short words for it, as `dropped x-validated, changed date` or `nothing permits stale`; none
-    /// where the reason says all.
-    pub fn name(&self, page: &mut Page) {
-        name_of(&self.why, self.nearest.as_ref(), self.near, page);
-    }
-}
-
-/// A word for what is wrong, where that response is named.
-pub(crate) fn kind_of(why: &Why, nearest: Option<&Nearest<'_>>) -> &'static str {
-    match (why, nearest) {
-        (Why::NoResponse(unstored), _) => unstored.kind(),
-        (Why::NotForwarded(window), _) => window.kind(),
-        (Why::Unmarked(NoMark::Partial), _) => "partial",
-        (Why::Unmarked(_), _) => "unmarked",
-        (Why::NotCollapsible, _) => "lacks",
-        (Why::Response, Some(nearest)) => match &nearest.shortfall {
-            Some(shortfall) => shortfall.kind(),
-            None => "nothing",
-        },
-        (Why::Response, None) | (Why::BothMarks, _) | (Why::Unasked, _) => "nothing",
-    }
-}
-
-/// Writes short words for what is wrong, where that response is named.
-pub(crate) fn name_of(
-    why: &Why,
-    nearest: Option<&Nearest<'_>>,
-    near: Option<&End>,
-    page: &mut Page,
-) {
-    match (why, nearest) {
-        (Why::NoResponse(unstored), _) => unstored.name(page),
-        (Why::NotForwarded(window), _) => window.name(near, page),
-        (Why::Unmarked(NoMark::Partial), _) => page.words("a hit of status 206"),
-        (Why::Unmarked(_), _) => page.words("no mark"),
-        (Why::NotCollapsible, Some(nearest)) => {
-            page.words("the response after the request fails by ");
-            page.words(nearest.reason().name());
-        }
-        (Why::NotCollapsible, None) => page.words("no response after the request"),
-        (Why::Response, Some(nearest)) => {
-            if let Some(shortfall) = &nearest.shortfall {
-                shortfall.name(page);
-            }
-        }
-        (Why::Response, None) | (Why::BothMarks, _) | (Why::Unasked, _) => {}
+        matches!(self.why, Why::NoResponse(Unstored::Unrecorded))
     }
 }
