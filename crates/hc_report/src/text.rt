@@ -11,7 +11,7 @@ use std::alloc::Global;
 /// The most columns that are left free after a text.
 const WIDEST: usize = 48;
 
-/// Writes what stands behind the verdict, and which tries help.
+/// Writes what stands behind the verdict, what is wrong in the wrong replies, and what could be let pass so that fewer are.
 pub(crate) fn say_report(
     report: &Report,
     helpful: &[Helpful],
@@ -31,9 +31,19 @@ pub(crate) fn say_report(
     say_replies(&report.replies, page);
     page.count("wrong      ", report.wrongs.count, " of ");
     page.count("", report.replies.judged(), "\n");
-    if report.wrongs.count != 0 {
-        say_wrongs(report, helpful, page);
+    if report.wrongs.count == 0 {
+        return;
     }
+    let found = &report.found;
+    say_groups(report.alloc, &found.groups, page);
+    say_suspects(&found.suspects, page);
+    let unrecorded = unrecorded(found.groups.kept.as_slice());
+    if unrecorded != 0 {
+        let after =
+            " of targets of which nothing is recorded: was the cache empty when the recording began?\n";
+        page.count("warm       ", unrecorded, after);
+    }
+    say_tries(report.wrongs.count, helpful, page);
 }
 
 fn say_replies(replies: &ReplyCounts, page: &mut Page) {
@@ -70,20 +80,6 @@ fn say_part(part: u64, all: u64, what: &str, page: &mut Page) {
         page.count("", thousandths % 10, "%)");
     }
     page.words(", ");
-}
-
-// Writes what is wrong in the wrong replies, and what could be let pass so that fewer are.
-fn say_wrongs(report: &Report, helpful: &[Helpful], page: &mut Page) {
-    let found = &report.found;
-    say_groups(report.alloc, &found.groups, page);
-    say_suspects(&found.suspects, page);
-    let unrecorded = unrecorded(found.groups.kept.as_slice());
-    if unrecorded != 0 {
-        let after =
-            " of targets of which nothing is recorded: was the cache empty when the recording began?\n";
-        page.count("warm       ", unrecorded, after);
-    }
-    say_tries(report.wrongs.count, helpful, page);
 }
 
 fn say_suspects(suspects: &Firsts<Suspect>, page: &mut Page) {
