@@ -1,5 +1,8 @@
 //! In what the status or the body of a reply differs from a stored response's.
 
+ghost use Rattle.std.specs.Prelude.{◌≡◌, codes};
+ghost use Rattle.hc_gaps.specs.Demanding.{content_sections, failing_sections, found_sections, gap_sections};
+
 use crate::demand::Demand;
 use hc_head::{Method, StatusCode, is_head};
 use hc_history::ReplyClaim;
@@ -25,11 +28,10 @@ pub struct BodyGap {
 // The name of a condition of a request, and that of what a response has for it (RFC 9110 section 13.2.2).
 type Condition = (&'static str, &'static str);
 
-/// The conditions that origins alone evaluate (RFC 9111 section 4.3.2), and those that caches do, as they go.
-const OF_ORIGINS: [Condition; 2] = [
-    ("if-match", "etag"),
-    ("if-unmodified-since", "last-modified"),
-];
+// The conditions that origins alone evaluate (RFC 9111 section 4.3.2), and those that caches do.
+const MATCH: Condition = ("if-match", "etag");
+
+const UNMODIFIED_SINCE: Condition = ("if-unmodified-since", "last-modified");
 
 const NONE_MATCH: Condition = ("if-none-match", "etag");
 
@@ -103,28 +105,59 @@ fn first_asked(conditions: &[Condition], claim: &ReplyClaim<'_>) -> Option<Condi
     None
 }
 
+// What a reply of status 412 is.
+fn failed(claim: &ReplyClaim<'_>) -> Content
+    ensures { found_sections result ≡ failing_sections claim.now }
+{
+    let asked = &claim.request.fields;
+    if asked.contains(b"if-match") {
+        return Content::Evaluated(MATCH);
+    }
+    if asked.contains(b"if-unmodified-since") {
+        return Content::Evaluated(UNMODIFIED_SINCE);
+    }
+    Content::Failed(first_asked(&[NONE_MATCH], claim))
+}
+
+// What a 304 is that no condition earns.
+fn unearned(claim: &ReplyClaim<'_>, state: &Stored) -> Content
+    ensures { found_sections result ≡ codes "RFC 9111 section 4.3.2" }
+{
+    if state.status != StatusCode::OK {
+        return Content::OfNoSuccess;
+    }
+    Content::Unearned(first_asked(&[NONE_MATCH, MODIFIED_SINCE], claim))
+}
+
+// What a reply is that has another status or another body than the response.
+fn content_of(claim: &ReplyClaim<'_>, state: &Stored) -> Content
+    ensures { found_sections result ≡ content_sections claim.now }
+{
+    let status = claim.reply.head.status;
+    if status == StatusCode::NOT_MODIFIED && claim.reply.body.is_empty() {
+        return unearned(claim, state);
+    }
+    if status == StatusCode::RANGE_NOT_SATISFIABLE && claim.settings.allowed.ranges {
+        return Content::Unsatisfied;
+    }
+    if status == StatusCode::PARTIAL_CONTENT && claim.settings.allowed.ranges {
+        return Content::Part;
+    }
+    if status == StatusCode::PRECONDITION_FAILED {
+        return failed(claim);
+    }
+    Content::Other
+}
+
 /// In what the status or the body of the reply differs from the response's.
-pub fn content_gap(claim: &ReplyClaim<'_>, state: &Stored) -> ContentGap {
-    let (reply, has_ranges) = (claim.reply, claim.settings.allowed.ranges);
-    let body = reply.body.as_slice();
-    let content = match reply.head.status {
-        StatusCode::NOT_MODIFIED if !body.is_empty() => Content::Other,
-        StatusCode::NOT_MODIFIED if state.status != StatusCode::OK => Content::OfNoSuccess,
-        StatusCode::NOT_MODIFIED => {
-            Content::Unearned(first_asked(&[NONE_MATCH, MODIFIED_SINCE], claim))
-        }
-        StatusCode::RANGE_NOT_SATISFIABLE if has_ranges => Content::Unsatisfied,
-        StatusCode::PARTIAL_CONTENT if has_ranges => Content::Part,
-        StatusCode::PRECONDITION_FAILED => match first_asked(&OF_ORIGINS, claim) {
-            Some(condition) => Content::Evaluated(condition),
-            None => Content::Failed(first_asked(&[NONE_MATCH], claim)),
-        },
-        _ => Content::Other,
-    };
+pub fn content_gap(claim: &ReplyClaim<'_>, state: &Stored) -> ContentGap
+    ensures { gap_sections result ≡ content_sections claim.now }
+{
+    let body = claim.reply.body.as_slice();
     ContentGap {
-        content,
+        content: content_of(claim, state),
         due: state.status,
-        told: reply.head.status,
+        told: claim.reply.head.status,
         bodies: body_gap(&claim.request.method, body, state.body.as_slice()),
     }
 }
@@ -221,7 +254,9 @@ impl ContentGap {
     }
 
     /// What is asked of the status and the body of the reply.
-    pub fn demand(&self) -> Demand {
+    pub fn demand(&self) -> Demand
+        ensures { result.sections.now ≡ gap_sections self.now }
+    {
         match self.content {
             Content::OfNoSuccess | Content::Unearned(_) => {
                 Demand::of("RFC 9111 section 4.3.2", WHOLE)

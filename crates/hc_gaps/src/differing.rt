@@ -2,6 +2,8 @@
 
 ghost use Rattle.std.specs.Prelude.{◌≡◌, ◌++◌, List, ℕ, [], ◌∷◌, true, filter, map, IfOk, OnOk};
 ghost use Rattle.hc_history.specs.Filters.{compared_names, names_of};
+ghost use Rattle.std.specs.List.{list_all, list_any};
+ghost use Rattle.hc_gaps.specs.Demanding.{change_sections, difference_sections, first_in, has_become, has_content, has_date, has_lost, has_renewed, is_undated, may_be_form, renewed_in, renews};
 ghost use Rattle.hc_gaps.specs.Differing.{AreDifferences, AreListed, IsGap, change_of, differs, with_name, with_names};
 
 use crate::demand::Demand;
@@ -173,6 +175,21 @@ pub fn compare(
     Ok(found)
 }
 
+impl FieldGap {
+    // Whether both mean the same by it, or it was added and tells of no representation.
+    fn may_be_form(&self) -> bool
+        ensures { result ≡ may_be_form self.now }
+    {
+        if self.is_form {
+            return true;
+        }
+        match self.change {
+            Change::Added => !is_of_content(self.name.as_slice()),
+            Change::Dropped | Change::Changed => false,
+        }
+    }
+}
+
 impl Change {
     /// The word for it.
     pub fn word(&self) -> &'static str {
@@ -197,12 +214,16 @@ pub struct FieldsOrigin<'a> {
 
 impl FieldsOrigin<'_> {
     // Whether the 304 that freshened it last is known to have that field.
-    fn has_renewed(&self, name: &[u8]) -> bool {
+    fn has_renewed(&self, name: &[u8]) -> bool
+        ensures { result ≡ renews (renewed_in self.now) name.now }
+    {
         matches!(self.validator, Some((_, renewed)) if renewed.contains(name))
     }
 
     // Whether the response is known to have come without a Date.
-    fn is_undated(&self) -> bool {
+    fn is_undated(&self) -> bool
+        ensures { result ≡ is_undated (first_in self.now) }
+    {
         matches!(self.first, Some(first) if !first.contains(b"date"))
     }
 
@@ -248,13 +269,10 @@ impl FieldGap {
 
 impl Differences {
     /// Whether one of those that are listed became so.
-    pub fn has(&self, change: Change) -> bool {
-        for gap in self.listed.iter() {
-            if gap.change == change {
-                return true;
-            }
-        }
-        false
+    pub fn has(&self, change: Change) -> bool
+        ensures { result ≡ has_become change self.now }
+    {
+        self.listed.iter().any(|gap| gap.change == change)
     }
 
     /// Whether nothing differs.
@@ -262,60 +280,89 @@ impl Differences {
         self.listed.is_empty()
     }
 
-    // Whether both mean the same by all of them that weren't added, of which there is one, and those that were tell of no
-    // representation.
-    fn is_form(&self) -> bool {
-        let mut has_form = false;
-        for gap in self.listed.iter() {
-            let is_plain = gap.change == Change::Added && !is_of_content(gap.name.as_slice());
-            if !gap.is_form && !is_plain {
-                return false;
-            }
-            has_form |= gap.is_form;
-        }
-        has_form && self.more == 0
+    // Whether one of them tells of the representation.
+    fn has_content(&self) -> bool
+        ensures { result ≡ has_content self.now }
+    {
+        self.listed
+            .iter()
+            .any(|gap| is_of_content(gap.name.as_slice()))
+    }
+
+    // Whether one of them is the Date.
+    fn has_date(&self) -> bool
+        ensures { result ≡ has_date self.now }
+    {
+        self.listed
+            .iter()
+            .any(|gap| gap.name.as_slice() == b"date".as_slice())
+    }
+
+    // Whether both mean the same by one of them.
+    fn has_form(&self) -> bool
+        ensures { result ≡ list_any (λ gap. gap.is_form) self.now.listed.items }
+    {
+        self.listed.iter().any(|gap| gap.is_form)
+    }
+
+    // Whether both mean the same by all of them that weren't added, and those that were tell of no representation.
+    fn may_be_forms(&self) -> bool
+        ensures { result ≡ list_all (λ gap. may_be_form gap) self.now.listed.items }
+    {
+        self.listed.iter().all(|gap| gap.may_be_form())
+    }
+
+    // Whether the 304 that freshened the response last has one of them.
+    fn has_renewed(&self, origin: &FieldsOrigin<'_>) -> bool
+        ensures { result ≡ has_renewed self.now (renewed_in origin.now) }
+    {
+        self.listed
+            .iter()
+            .any(|gap| origin.has_renewed(gap.name.as_slice()))
+    }
+
+    // Whether one is dropped or changed, or may be, since not all are listed.
+    fn has_lost(&self) -> bool
+        ensures { result ≡ has_lost self.now }
+    {
+        self.more != 0 || self.has(Change::Dropped) || self.has(Change::Changed)
     }
 
     /// What is asked of the fields of a reply of that status, where those of the response come from that.
-    pub fn demand(&self, status: StatusCode, origin: FieldsOrigin<'_>) -> Demand {
-        let (mut has_date, mut has_content, mut is_renewed) = (false, false, false);
-        for gap in self.listed.iter() {
-            let name = gap.name.as_slice();
-            let has_renewed = origin.has_renewed(name);
-            has_date |= name == b"date".as_slice() && !has_renewed;
-            has_content |= is_of_content(name);
-            is_renewed |= has_renewed;
-        }
-        if origin.is_undated() && has_date {
+    pub fn demand(&self, status: StatusCode, origin: FieldsOrigin<'_>) -> Demand
+        ensures { result.sections.now ≡ difference_sections self.now status (renewed_in origin.entry) (first_in origin.entry) }
+    {
+        if origin.is_undated() && self.has_date() && !origin.has_renewed(b"date") {
             return Demand::of(
                 "RFC 9110 section 6.6.1",
                 "what comes without a Date MUST get one: the moment at which it came",
             );
         }
-        if self.is_form() {
+        if self.more == 0 && self.has_form() && self.may_be_forms() {
             return Demand::of(
                 "no RFC (RFC 9110 sections 5.3 and 5.6.1 let lines be joined, and space in lists means nothing), but this auditor's stricter rule",
                 "a reply has the stored response's fields as they are written, line by line",
             );
         }
-        let is_changed = self.more != 0 || self.has(Change::Dropped) || self.has(Change::Changed);
-        if status == StatusCode::NOT_MODIFIED && (is_changed || has_content) {
+        if status == StatusCode::NOT_MODIFIED && (self.has_lost() || self.has_content()) {
             return Demand::of(
                 "RFC 9110 section 15.4.5",
                 "a 304 MUST have the stored response's Cache-Control, Content-Location, Date, ETag, Expires and Vary",
             );
         }
-        if is_renewed {
+        if self.has_renewed(&origin) {
             return Demand::of(
                 "RFC 9111 section 4.3.4",
                 "the fields of a 304 MUST replace those of the stored response that it is about",
             );
         }
-        self.demand_of_change(has_content)
+        self.demand_of_change()
     }
 
-    // What is asked by what became of the fields, of which one tells of the representation or none does.
-    fn demand_of_change(&self, has_content: bool) -> Demand {
+    // What is asked by what became of the fields.
+    fn demand_of_change(&self) -> Demand
+        ensures { result.sections.now ≡ change_sections self.now }
+    {
         if self.has(Change::Dropped) {
             Demand::of(
                 "RFC 9111 section 3.1",
@@ -326,7 +373,7 @@ impl Differences {
                 "RFC 9110 section 7.7",
                 "a proxy SHOULD NOT modify the fields that tell of the resource or of its representation",
             )
-        } else if has_content {
+        } else if self.has_content() {
             Demand::of(
                 "RFC 9110 section 7.7",
                 "a proxy SHOULD NOT modify what tells of a representation, and to add such a field, as a Content-Type, is that, too",
