@@ -1,3 +1,4 @@
+pub mod Demanding
 pub mod Explaining
 pub mod Found
 pub mod Naming

@@ -4,6 +4,8 @@ use Rattle.std.specs.Option.{option_map}
 use Rattle.hc_transcript.specs.Items.{Item}
 use Rattle.hc_update.specs.declared.stored.Stored.{Stored}
 use Rattle.hc_history.specs.declared.candidates.Candidate.{Candidate}
+use Rattle.hc_history.specs.declared.reasons.Reason.{Reason}
+use Rattle.hc_history.specs.declared.reasons.Reason.TheVariants.{NotCollapsible}
 use Rattle.hc_history.specs.Candidates.{IsCandidate}
 use Rattle.hc_history.specs.Claims.{Claim}
 use Rattle.hc_history.specs.Seen.{live_of}
@@ -11,6 +13,7 @@ use Rattle.hc_index.specs.Lists.{state_in}
 use Rattle.hc_gaps.specs.declared.rules.Rule.{Rule}
 use Rattle.hc_gaps.specs.declared.rules.Rule.TheVariants as rule
 use Rattle.hc_gaps.specs.Aging.{IsAgeGap, ttl_gap_of}
+use Rattle.hc_gaps.specs.Demanding.{content_sections, gap_sections}
 use Rattle.hc_gaps.specs.Differing.{AreDifferences}
 use Rattle.hc_gaps.specs.Rules.{IsRuleBehind}
 use Rattle.hc_gaps.specs.Selecting.{AreUnmet}
@@ -40,12 +43,17 @@ IsShortfall claim state (Selected selection) = AreUnmet claim state selection
 IsShortfall claim state Valid = ⊤
 IsShortfall claim state (Lifetime usage) = usage ≡ usage_of claim state
 IsShortfall claim state (Use usage) = usage ≡ usage_of claim state
-IsShortfall claim state (Body gap) = ⊤
+IsShortfall claim state (Body gap) = gap_sections gap ≡ content_sections claim
 IsShortfall claim state (Fields found) = AreDifferences claim state found
 IsShortfall claim state (Age gap) = IsAgeGap claim state gap
 IsShortfall claim state (Ttl gap) = gap ≡ ttl_gap_of claim state
 
 -- ---- which response is named
+
+-- the position behind which it stands: that of the request, where the reply is wrong as one that was collapsed
+abbrev pub named_after : Reason → Claim → ℕ
+named_after NotCollapsible claim = claim.since
+named_after reason claim = 0
 
 -- the first of the candidates behind a position: where they are in order, none of these gets further
 abbrev pub first_after : ℕ → List Candidate → Option Candidate

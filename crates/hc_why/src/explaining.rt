@@ -48,7 +48,6 @@ impl Way {
 }
 
 /// What is known of one reply, and of the records that are named with it.
-#[derive(Drop)]
 pub struct Explanation<'a> {
     pub(crate) alloc: Global,
     /// The position of its record.
@@ -79,6 +78,34 @@ pub struct Explanation<'a> {
     pub ends: Ends<'a>,
     /// What came before the reply.
     pub(crate) past: &'a Past,
+}
+
+impl Drop for Explanation<'_> {
+    fn drop(self) {
+        let Explanation {
+            alloc: _,
+            position: _,
+            claim,
+            way: _,
+            finding: _,
+            with_setting: _,
+            stale: _,
+            why: _,
+            nearest,
+            permitted: _,
+            came,
+            reaches,
+            before,
+            ends,
+            past: _,
+        } = self;
+        drop(claim);
+        drop(nearest);
+        drop(came);
+        drop(reaches);
+        drop(before);
+        drop(ends);
+    }
 }
 
 /// The way of a reply of that mark.

@@ -9,12 +9,22 @@ use hc_history::WrongReply;
 use std::alloc::Global;
 
 /// A witness that looks for the first wrong reply.
-#[derive(Drop)]
 pub struct FirstWrong {
     pub(crate) alloc: Global,
     pub(crate) first: Option<WrongReply>,
     pub(crate) found: Option<FoundReply>,
     ghost of_first: { ForSome found (λ reply. IsThat first (position_of reply) (finding_of reply)) },
+}
+
+impl Drop for FirstWrong {
+    fn drop(self) {
+        let FirstWrong {
+            alloc: _,
+            first: _,
+            found,
+        } = self;
+        drop(found);
+    }
 }
 
 impl FirstWrong {

@@ -14,7 +14,6 @@ use hc_index::Index;
 use std::alloc::{AllocError, Global};
 
 /// A reply that the first reading found: the second one looks for all that is told of it.
-#[derive(Drop)]
 pub struct FoundReply {
     /// The position of its record, of which the first has 1.
     pub position: u64,
@@ -24,6 +23,18 @@ pub struct FoundReply {
     pub way: Way,
     /// What was asked for.
     pub target: Target,
+}
+
+impl Drop for FoundReply {
+    fn drop(self) {
+        let FoundReply {
+            position: _,
+            finding: _,
+            way: _,
+            target,
+        } = self;
+        drop(target);
+    }
 }
 
 impl FoundReply {

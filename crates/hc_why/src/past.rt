@@ -60,7 +60,6 @@ pub struct End {
 /// What is remembered of the records before a reply: of one target, or of hosts that have its path, all ends of forwards,
 /// with their heads and bodies; of all targets the latest ends, and what forbids to store the latest response of each. The latter
 /// takes no more than so much memory.
-#[derive(Drop)]
 pub struct Past {
     alloc: Global,
     // The one target, if it is one.
@@ -80,6 +79,27 @@ pub struct Past {
     /// Whether a target is forgotten of which a response may not be stored.
     pub(crate) has_forgotten_target: bool,
     ghost few_targets: { forbidden.cap ≡ 4096 },
+}
+
+impl Drop for Past {
+    fn drop(self) {
+        let Past {
+            alloc: _,
+            only,
+            sent,
+            asked,
+            answered: _,
+            ends,
+            forgotten: _,
+            forbidden,
+            has_forgotten_target: _,
+        } = self;
+        drop(only);
+        drop(sent);
+        drop(asked);
+        drop(ends);
+        drop(forbidden);
+    }
 }
 
 /// A head in memory of its own, but for how its target is written.

@@ -71,7 +71,6 @@ impl<I: Index> Witness<I> for FirstWrong {
 }
 
 /// A witness that looks for the reply at a position.
-#[derive(Drop)]
 pub struct ReplyAt {
     alloc: Global,
     position: u64,
@@ -79,6 +78,19 @@ pub struct ReplyAt {
     // Why the reply there is wrong, if it is.
     reason: Option<Reason>,
     found: Option<FoundReply>,
+}
+
+impl Drop for ReplyAt {
+    fn drop(self) {
+        let ReplyAt {
+            alloc: _,
+            position: _,
+            is_behind: _,
+            reason: _,
+            found,
+        } = self;
+        drop(found);
+    }
 }
 
 impl ReplyAt {

@@ -1,9 +1,10 @@
 //! In what a stored response falls short of what a reply carries: one thing for each rule; and which response is named.
 
-ghost use Rattle.std.specs.Prelude.{◌≡◌, List, find, nat_lt, None, IfOk, IfSome};
+ghost use Rattle.std.specs.Prelude.{◌≡◌, List, find, nat_lt, None, IfOk, IfSome, IsSome};
 ghost use Rattle.std.specs.Option.{option_copied, option_map};
 ghost use Rattle.hc_transcript.specs.Items.{Item};
 ghost use Rattle.hc_transcript.specs.declared.format.Format.{Format};
+ghost use Rattle.hc_history.specs.Candidates.{IsCandidate};
 ghost use Rattle.hc_history.specs.Seen.{IsSeenAs};
 ghost use Rattle.hc_why.specs.Naming.{GetsFurthest, IsOneOf, IsShortfall, IsThatOf, first_after, rule_of};
 
@@ -178,8 +179,10 @@ impl<'a> Nearest<'a> {
         claim: &ReplyClaim<'_>,
         named: Option<Candidate>,
     ) -> Result<Option<Self>, AllocError>
-        ensures { (format : Format) (h : List Item) → IsSeenAs format (I.seen index.now) h
+        ensures told { (format : Format) (h : List Item) → IsSeenAs format (I.seen index.now) h
             → IfOk result (λ found. IfSome found (IsThatOf claim.now h named)) }
+        ensures there { (format : Format) (h : List Item) → IsSeenAs format (I.seen index.now) h → IsSome named → IfSome named (IsCandidate claim.now h)
+            → IfOk result (λ found. IsSome found) }
     {
         let Some(candidate) = named else {
             return Ok(None);

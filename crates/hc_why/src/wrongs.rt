@@ -1,11 +1,11 @@
 //! What is wrong with a reply.
 
-ghost use Rattle.std.specs.Prelude.{All, List, IfOk, IfSome};
+ghost use Rattle.std.specs.Prelude.{◌≡◌, All, List, None, IfOk, IfSome};
 ghost use Rattle.hc_transcript.specs.declared.format.Format.{Format};
 ghost use Rattle.hc_transcript.specs.Items.{Item};
 ghost use Rattle.hc_history.specs.Candidates.{IsCandidate};
 ghost use Rattle.hc_history.specs.Seen.{IsSeenAs};
-ghost use Rattle.hc_why.specs.Naming.{IsNamed};
+ghost use Rattle.hc_why.specs.Naming.{IsNamed, first_after, named_after};
 
 use crate::past::{End, Past};
 use crate::shortfalls::{Nearest, Shortfall, named, shortfall_of};
@@ -51,7 +51,6 @@ pub enum Why {
 }
 
 /// What is wrong with a reply, and the response that is named, if one is.
-#[derive(Drop)]
 pub struct Wrong<'a> {
     /// What is wrong.
     pub why: Why,
@@ -59,6 +58,17 @@ pub struct Wrong<'a> {
     pub nearest: Option<Nearest<'a>>,
     /// The latest response of the same path under another host that a reply would carry which went forward.
     pub near: Option<&'a End>,
+}
+
+impl Drop for Wrong<'_> {
+    fn drop(self) {
+        let Wrong {
+            why: _,
+            nearest,
+            near: _,
+        } = self;
+        drop(nearest);
+    }
 }
 
 // Why a reply counts as one without a mark.
@@ -167,10 +177,20 @@ pub fn names_response(reason: Reason) -> bool {
     )
 }
 
+// The position behind which the response is named of a reply that is wrong for that reason.
+fn named_after(reason: Reason, claim: &ReplyClaim<'_>) -> u64
+    ensures { result ≡ named_after reason claim.now }
+{
+    match reason {
+        Reason::NotCollapsible => claim.since,
+        _ => 0,
+    }
+}
+
 impl<'a> Wrong<'a> {
     /// What is wrong with a reply for that reason, of which those are the candidates, by what is remembered of the
     /// records before it. It fails only where memory is refused.
-    #[tactic(auto, using(crate::proofs::ExplainingLemmas::named_is))]
+    #[tactic(auto, using(crate::proofs::ExplainingLemmas::named_is, crate::proofs::ExplainingLemmas::none_named))]
     pub fn read<I: Index>(
         alloc: Global,
         index: &'a I,
@@ -179,14 +199,14 @@ impl<'a> Wrong<'a> {
         candidates: &[Candidate],
         past: &'a Past,
     ) -> Result<Self, AllocError>
-        ensures { (format : Format) (h : List Item) → IsSeenAs format (I.seen index.now) h → All (IsCandidate claim.now h) candidates.now
+        // The response that is named is one of them.
+        ensures named { (format : Format) (h : List Item) → IsSeenAs format (I.seen index.now) h → All (IsCandidate claim.now h) candidates.now
             → IfOk result (λ wrong. IfSome wrong.nearest (IsNamed claim.now h)) }
+        // None is named only where none of them stands there.
+        ensures there { (format : Format) (h : List Item) → IsSeenAs format (I.seen index.now) h → All (IsCandidate claim.now h) candidates.now
+            → IfOk result (λ wrong. wrong.nearest ≡ None → first_after (named_after reason claim.now) candidates.now ≡ None) }
     {
-        let since = match reason {
-            Reason::NotCollapsible => claim.since,
-            _ => 0,
-        };
-        let named = named(index, claim, candidates, since);
+        let named = named(index, claim, candidates, named_after(reason, claim));
         Ok(Wrong {
             why: Why::read(alloc, claim, reason, past)?,
             nearest: Nearest::read(alloc, index, claim, named)?,

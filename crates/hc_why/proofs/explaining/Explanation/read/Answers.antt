@@ -12,7 +12,7 @@ returns-clause-is g c = λ h behind.
     let claims = sym (c.claim.ensures h behind.index) ∙ c.in-Some.is in
     let all = candidates_are _ _ _ _ _ h _ c.in-Some.claim (c.in_ok-candidates.ensures h behind.index) claims in
     let listed = subst (λ (candidates : List Candidate). All (IsCandidate c.in-Some.claim h) candidates) (sym c.as_slice.ensures.value) all in
-    let first = named_is c.in-Some.claim h _ _ _ _ listed c.named-candidate.ensures.some (c.in_ok-nearest.ensures _ h behind.index) in
+    let first = named_is c.in-Some.claim h _ _ _ _ listed c.named-candidate.ensures.some (c.in_ok-nearest.ensures.told _ h behind.index) in
     let leaves = c.in_ok-fill.ensures in
     record {
       position = leaves.position;
