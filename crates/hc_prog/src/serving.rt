@@ -147,26 +147,34 @@ fn milliseconds(seconds: u64) -> u64 {
 fn unserved<E: Write>(fault: ServeFault, names: Proxy<'_>, faults: &mut E) -> u8
     ensures { result ≡ 3 }
 {
+    let (trouble, name) = trouble_of(fault, names);
+    trouble.told(name, faults)
+}
+
+// What went wrong, and the name of what it went wrong with.
+fn trouble_of<'a>(fault: ServeFault, names: Proxy<'a>) -> (Trouble, &'a str) {
     match fault {
-        ServeFault::Memory => Trouble::Memory.told("", faults),
-        ServeFault::Listener(reason) => Trouble::Device(reason).told(names.listen, faults),
-        ServeFault::Origin(reason) => Trouble::Device(reason).told(names.origin, faults),
-        ServeFault::Record(reason) => {
-            let file = match names.recording {
-                Some(to) => to.file,
-                None => "",
-            };
-            Trouble::Device(reason).told(file, faults)
-        }
-        ServeFault::Random(reason) => Trouble::Device(reason).told("random numbers", faults),
+        ServeFault::Memory => (Trouble::Memory, ""),
+        ServeFault::Listener(reason) => (Trouble::Device(reason), names.listen),
+        ServeFault::Origin(reason) => (Trouble::Device(reason), names.origin),
+        ServeFault::Record(reason) => (Trouble::Device(reason), file_of(names)),
+        ServeFault::Random(reason) => (Trouble::Device(reason), "random numbers"),
         ServeFault::OpenFiles => {
             let reason =
                 "so many may be open that --max-connections and --origin-connections don't fit";
-            Trouble::Device(io::Error::other(reason)).told("open files", faults)
+            (Trouble::Device(io::Error::other(reason)), "open files")
         }
         ServeFault::Clock => {
             let reason = io::Error::other("it is past the year 9999");
-            Trouble::Device(reason).told("clock", faults)
+            (Trouble::Device(reason), "clock")
         }
+    }
+}
+
+// The name of the file that is recorded to.
+fn file_of<'a>(names: Proxy<'a>) -> &'a str {
+    match names.recording {
+        Some(to) => to.file,
+        None => "",
     }
 }
