@@ -1,7 +1,8 @@
 //! The second reading, which explains the reply that the first one found, and the line that heads the explanation.
 
-ghost use Rattle.std.specs.Prelude.{◌≡◌, ◌++◌, List, ℕ, OnOk, string_bytes};
+ghost use Rattle.std.specs.Prelude.{◌≡◌, ◌++◌, List, [], ℕ, IfOk, OnOk, string_bytes};
 ghost use Rattle.hc_explain.specs.Heads.{IsHead};
+ghost use Rattle.hc_explain.specs.Hearing.{HasHeard};
 ghost use Rattle.hc_why.specs.Found.{finding_of, position_of};
 
 use crate::object::Object;
@@ -71,7 +72,9 @@ impl Drop for Explaining {
 
 impl Explaining {
     /// Looks for all that is told of that reply.
-    pub fn new(alloc: Global, found: FoundReply, form: Form) -> Result<Self, AllocError> {
+    pub fn new(alloc: Global, found: FoundReply, form: Form) -> Result<Self, AllocError>
+        ensures { IfOk result (λ explaining. HasHeard explaining []) }
+    {
         let past = Past::new(alloc, Some(found.target.copy(alloc)?))?;
         Ok(Explaining {
             alloc,
@@ -86,6 +89,17 @@ impl Explaining {
     /// Whether the records so far have the reply, so that no further record can tell more.
     pub fn is_after(&self) -> bool {
         self.is_after
+    }
+
+    // Tells of that reply, if it is the one that was found.
+    fn tell<I: Index>(&mut self, judged: &JudgedReply<'_, I>) -> Result<(), AllocError>
+        ensures { (self.new.is_after ≡ self.old.is_after) × (self.new.found ≡ self.old.found) }
+    {
+        if !self.found.is_as(judged) {
+            return Ok(());
+        }
+        self.told = explained(self.alloc, judged, self.form, &self.past)?;
+        Ok(())
     }
 
     /// What is told of the reply, which is moved. None where it wasn't read again, as it was.
@@ -121,7 +135,8 @@ fn explained<I: Index>(
 impl<I: Index> Witness<I> for Explaining {
     ghost tells = { λ explaining wrongs. Unit {0} };
 
-    ghost hears = { λ explaining h. Unit {0} };
+    // Up to the reply it remembers how forwards for its path ended.
+    ghost hears = { λ explaining h. HasHeard explaining h };
 
     fn pass(&mut self, passed: &PassedRecord<'_, I>) -> Result<(), AllocError> {
         if self.found.position <= passed.position {
@@ -132,12 +147,11 @@ impl<I: Index> Witness<I> for Explaining {
     }
 
     fn see(&mut self, judged: &JudgedReply<'_, I>) -> Result<(), AllocError> {
-        self.is_after = self.found.position <= judged.position;
-        if self.found.is_as(judged) {
-            self.told = explained(self.alloc, judged, self.form, &self.past)?;
-        } else {
+        if judged.position < self.found.position {
             self.past.answer(judged.exchange, judged.position);
+            return Ok(());
         }
-        Ok(())
+        self.is_after = true;
+        self.tell(judged)
     }
 }

@@ -47,7 +47,7 @@ pub(crate) fn tell_stale<T: Teller>(known: &Explanation<'_>, teller: &mut T) {
 // Begins a line about the response at that position, of which this is the record.
 fn begin_place<T: Teller>(word: &str, position: u64, source: Option<&End>, teller: &mut T) {
     match source {
-        Some(source) => teller.record(word, source.record),
+        Some(source) => teller.record(word, source.named),
         None => teller.count(word, position, ""),
     }
     teller.fill();
@@ -66,10 +66,10 @@ fn say_carried<T: Teller>(end: &End, claim: &ReplyClaim<'_>, teller: &mut T) {
 fn tell_changes<T: Teller>(known: &Explanation<'_>, nearest: &Nearest<'_>, teller: &mut T) {
     if let Some(validator) = known.ends.validator {
         teller.begin("validator");
-        teller.place(validator.record);
+        teller.place(validator.named);
         teller.some_record("forward", validator.sent);
         teller.end();
-        teller.record(", which the 304 ", validator.record);
+        teller.record(", which the 304 ", validator.named);
         validator.say_sent(teller);
         let is_sent = validator.sent.is_some();
         teller.words(if is_sent { ", freshens" } else { " freshens" });
@@ -83,20 +83,20 @@ fn tell_changes<T: Teller>(known: &Explanation<'_>, nearest: &Nearest<'_>, telle
 }
 
 fn position_of(end: Option<&End>) -> Option<u64> {
-    Some(end?.record.position)
+    Some(end?.named.position)
 }
 
 // Tells the error and the failure of the window after which the response was given.
 fn tell_trouble<T: Teller>(ends: &Ends<'_>, teller: &mut T) {
     teller.some("error", position_of(ends.error));
     if let Some(error) = ends.error {
-        teller.record(", given after the error ", error.record);
+        teller.record(", given after the error ", error.named);
         error.tell_status("error_status", ", a ", teller);
         teller.words(", which validates nothing");
     }
     teller.some("failure", position_of(ends.failure));
     if let Some(failure) = ends.failure {
-        teller.record(", given after the failure ", failure.record);
+        teller.record(", given after the failure ", failure.named);
         teller.words(", to which no response came");
     }
 }
@@ -200,7 +200,7 @@ pub(crate) fn tell_wrong<T: Teller>(known: &Explanation<'_>, why: &Why, teller: 
 
 // Writes the line of the answer of its own window that a reply carries which is marked as a hit.
 fn say_own<T: Teller>(end: &End, teller: &mut T) {
-    teller.record("window          ", end.record);
+    teller.record("window          ", end.named);
     teller.words(
         " is carried: the reply is an answer of its own window, though it is marked as a hit\n",
     );
@@ -270,7 +270,7 @@ fn say_validated<T: Teller>(known: &Explanation<'_>, nearest: &Nearest<'_>, tell
         return;
     }
     begin_between("window ", known, teller);
-    teller.record("", validator.record);
+    teller.record("", validator.named);
     teller.count(" is 304 and validates ", nearest.position, "");
     teller.words(if known.claim.is_inferred {
         "; the reply is inferred to be a hit all the same\n"
@@ -357,8 +357,8 @@ fn tell_near<T: Teller>(known: &Explanation<'_>, teller: &mut T) {
     teller.begin_list("near");
     for end in known.ends.near.named.iter() {
         teller.begin_item();
-        teller.place(end.record);
-        teller.record("near   ", end.record);
+        teller.place(end.named);
+        teller.record("near   ", end.named);
         teller.fill();
         let before = "agrees in path, status and body: its host is ";
         teller.octets("host", before, end.target.host.as_slice());
@@ -428,7 +428,7 @@ fn say_due_answer<T: Teller>(besides: &str, given: Option<&End>, teller: &mut T)
     teller.words(ANSWER);
     teller.words(besides);
     if let Some(end) = given {
-        teller.record("; came ", end.record);
+        teller.record("; came ", end.named);
         end.say_sent(teller);
     }
     teller.words("\n");
@@ -444,25 +444,25 @@ fn say_due_unused<T: Teller>(known: &Explanation<'_>, nearest: &Nearest<'_>, tel
     teller.words("due             ");
     match due {
         Due::Error(end) => {
-            teller.record("the error ", end.record);
+            teller.record("the error ", end.named);
             end.tell_status("", ", a ", teller);
         }
         Due::Failure(end) => {
             let before = "an error of the cache's own, as 504, since the forward failed: ";
-            teller.record(before, end.record);
+            teller.record(before, end.named);
         }
         Due::Answer => {
             teller.words(ANSWER);
             if nearest.has_validator() {
                 teller.count(", or ", nearest.position, " once a 304 has validated it");
                 if let Some(invalidator) = known.ends.invalidators.last() {
-                    teller.count(" after ", invalidator.record.position, "");
+                    teller.count(" after ", invalidator.named.position, "");
                 }
             }
         }
     }
     if let Some(end) = known.given(nearest) {
-        teller.record("; came ", end.record);
+        teller.record("; came ", end.named);
         say_differences(known, teller);
     }
     teller.words("\n");

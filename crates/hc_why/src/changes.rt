@@ -1,6 +1,12 @@
 //! The ends of forwards that are told of with a reply: what they made of the response that is named, and what was due in its
 //! place.
 
+ghost use Rattle.std.specs.Prelude.{◌≡◌, ◌&&◌, IfOk, OnOk, map, option_copied, true, if◌then◌else◌};
+ghost use Rattle.hc_head.specs.Targets.{same_target};
+ghost use Rattle.hc_history.specs.Forwarded.{asks_the_same};
+ghost use Rattle.hc_why.specs.Due.{due_at, due_by, is_error_by_status, may_answer, name_of_end, none_told, place_among, place_of_end, told_after, told_by, told_by_all, told_of, validated_in};
+ghost use Rattle.hc_why.specs.Remembered.{end_seen};
+
 use crate::explaining::Explanation;
 use crate::past::{End, Heads, copied_request};
 use crate::shortfalls::Nearest;
@@ -8,8 +14,8 @@ use crate::window::asks_the_same;
 use crate::wrongs::Why;
 use hc_fields::{END_OF_MOMENTS, Fields, decimal};
 use hc_gaps::{Against, Demand, Newest, Rule, STORABLE_304, agree, first_against};
-use hc_head::{StatusCode, is_error_status, is_head};
-use hc_history::{ReplyClaim, may_be_for, passed};
+use hc_head::{StatusCode, Target, is_error_status, is_head};
+use hc_history::{ReplyClaim, passed};
 use hc_rules::selects;
 use hc_shown::Teller;
 use hc_update::{Stored, invalidates};
@@ -121,7 +127,7 @@ fn against<'a>(
     if response.status != StatusCode::NOT_MODIFIED {
         return Ok(None);
     }
-    let first = if end.record.position < nearest.position {
+    let first = if end.named.position < nearest.position {
         Some(Against::Earlier)
     } else {
         first_against(alloc, state, forward, response)?
@@ -171,9 +177,47 @@ fn may_update(alloc: Global, state: &Stored, heads: &Heads) -> Result<bool, Allo
     )
 }
 
+// Which is the later one of those that are looked for: that end of a forward, if it is one, or else the one before.
+fn latest<'a>(is_one: bool, end: &'a End, before: Option<&'a End>) -> Option<&'a End>
+    ensures { name_of_end (option_copied result) ≡ (if is_one then Some end.now.named else name_of_end (option_copied before.entry)) }
+{
+    if is_one { Some(end) } else { before }
+}
+
+// The end of a forward for that target at that position, if it is one of these.
+fn end_at<'a>(ends: &'a [End], target: &Target, position: u64) -> Option<&'a End>
+    ensures { place_of_end (option_copied result) ≡ place_among target.now (Some position) (map end_seen ends.now) }
+{
+    'ends: for end in ends {
+        if end.named.position == position && end.is_of(target) {
+            return Some(end);
+        }
+    }
+    None
+}
+
+// What is due: what that end of a forward makes due, if it may have been made for the request, or else what was due before.
+fn due_with<'a>(is_asked_for: bool, end: &'a End, before: Due<'a>) -> Due<'a>
+    ensures { due_at result ≡ (if is_asked_for then due_by end.now.named end.now.status else due_at before.entry) }
+{
+    if !is_asked_for {
+        return before;
+    }
+    let Some(status) = end.status else {
+        return Due::Failure(end);
+    };
+    if is_error_status(status) {
+        Due::Error(end)
+    } else {
+        Due::Answer
+    }
+}
+
 impl<'a> Ends<'a> {
     /// None.
-    pub(crate) fn none(alloc: Global) -> Self {
+    pub(crate) fn none(alloc: Global) -> Self
+        ensures { told_of result ≡ none_told }
+    {
         Ends {
             sources: Vec::new(alloc),
             unstored: Newest::new(alloc),
@@ -192,38 +236,96 @@ impl<'a> Ends<'a> {
     }
 
     /// Those that are told of with a reply of which that is known.
-    pub(crate) fn read(known: &Explanation<'a>) -> Result<Self, AllocError> {
+    pub(crate) fn read(known: &Explanation<'a>) -> Result<Self, AllocError>
+        ensures told { IfOk result (λ ends. told_of ends ≡ told_by_all known.now.claim none_told (map end_seen known.now.past.now.ends.items)) }
+        ensures validator { IfOk result (λ ends. place_of_end (option_copied ends.validator)
+            ≡ place_among known.now.claim.target (validated_in known.now.nearest) (map end_seen known.now.past.now.ends.items)) }
+    {
         let mut ends = Ends::none(known.alloc);
         ends.fill(known)?;
+        ends.validator = known.validator();
         Ok(ends)
     }
 
-    // Takes in all of them.
-    fn fill(&mut self, known: &Explanation<'a>) -> Result<(), AllocError> {
-        let is_not_forwarded = matches!(known.why, Some(Why::NotForwarded(_)));
-        for end in known.past.ends.iter() {
-            if end.is_of(known.claim.target) {
-                self.take(known, end)?;
-                self.take_change(known, end)?;
-            } else if is_not_forwarded && end.is_near(&known.claim) {
-                self.near.push(end)?;
-            }
+    // Takes in all that are remembered.
+    fn fill(&mut self, known: &Explanation<'a>) -> Result<(), AllocError>
+        ensures { OnOk result (told_of self.new ≡ told_by_all known.now.claim (told_of self.old) (map end_seen known.now.past.now.ends.items)) }
+    {
+        let (older, newer) = known.past.ends.as_slices();
+        self.take_all(known, older)?;
+        self.take_all(known, newer)
+    }
+
+    // Takes in these.
+    fn take_all(&mut self, known: &Explanation<'_>, ends: &'a [End]) -> Result<(), AllocError>
+        ensures { OnOk result (told_of self.new ≡ told_by_all known.now.claim (told_of self.old) (map end_seen ends.now)) }
+    {
+        'ends: for end in ends {
+            self.take(known, end)?;
         }
         Ok(())
     }
 
-    // Takes in the next one of the target: the record of a response that is named, and what the reply is wrong by.
-    fn take(&mut self, known: &Explanation<'_>, end: &'a End) -> Result<(), AllocError> {
-        let position = end.record.position;
-        if known.reaches.names(position) {
-            self.sources.push(end)?;
+    // Takes in the next one.
+    fn take(&mut self, known: &Explanation<'_>, end: &'a End) -> Result<(), AllocError>
+        ensures { OnOk result (told_of self.new ≡ told_after known.now.claim (told_of self.old) (end_seen end.now)) }
+    {
+        if !end.is_of(known.claim.target) {
+            return self.take_near(known, end);
         }
-        let is_in_window = known.claim.since < position;
-        if is_in_window {
-            self.take_in_window(&known.claim, end);
-        } else if end.is_given(&known.claim) {
-            self.is_given_before = true;
+        self.take_place(&known.claim, end);
+        self.take_source(known, end)?;
+        self.take_wrong(known, end)?;
+        self.take_change(known, end)
+    }
+
+    // Takes in one of another target, where the reply is wrong as one that went forward, and would carry it.
+    fn take_near(&mut self, known: &Explanation<'_>, end: &'a End) -> Result<(), AllocError>
+        ensures { OnOk result (told_of self.new ≡ told_of self.old) }
+    {
+        match known.why {
+            Some(Why::NotForwarded(_)) if end.is_near(&known.claim) => self.near.push(end),
+            _ => Ok(()),
         }
+    }
+
+    // Takes in one of the target: one of the window, or whether the reply gives one from before that.
+    fn take_place(&mut self, claim: &ReplyClaim<'_>, end: &'a End)
+        ensures { same_target end.now.target claim.now.target ≡ true → told_of self.new ≡ told_after claim.now (told_of self.old) (end_seen end.now) }
+    {
+        if claim.since < end.named.position {
+            self.take_in_window(claim, end);
+            return;
+        }
+        self.is_given_before = self.is_given_before || end.is_given(claim);
+    }
+
+    // Takes in one of the target in the window: what the reply carries, an error or a failure, and what is due.
+    fn take_in_window(&mut self, claim: &ReplyClaim<'_>, end: &'a End)
+        ensures { told_of self.new ≡ told_by claim.now (told_of self.old) (end_seen end.now) }
+    {
+        self.carried = latest(end.is_carried(claim), end, self.carried);
+        self.error = latest(end.is_error(), end, self.error);
+        self.failure = latest(end.status.is_none(), end, self.failure);
+        self.due = due_with(end.is_asked_for(claim), end, self.due);
+    }
+
+    // Takes in the record of a response that is named.
+    fn take_source(&mut self, known: &Explanation<'_>, end: &'a End) -> Result<(), AllocError>
+        ensures { OnOk result (told_of self.new ≡ told_of self.old) }
+    {
+        if !known.reaches.names(end.named.position) {
+            return Ok(());
+        }
+        self.sources.push(end)?;
+        Ok(())
+    }
+
+    // Takes in one of the target, if the reply is wrong by it.
+    fn take_wrong(&mut self, known: &Explanation<'_>, end: &'a End) -> Result<(), AllocError>
+        ensures { OnOk result (told_of self.new ≡ told_of self.old) }
+    {
+        let is_in_window = known.claim.since < end.named.position;
         let is_unstored = end.forbids.is_some();
         match known.why {
             Some(Why::NoResponse(_)) if is_unstored => self.unstored.push(end),
@@ -233,42 +335,19 @@ impl<'a> Ends<'a> {
         }
     }
 
-    // Takes in one of the target in the window: what the reply carries, an error or a failure, and what is due.
-    fn take_in_window(&mut self, claim: &ReplyClaim<'_>, end: &'a End) {
-        if end.is_carried(claim) {
-            self.carried = Some(end);
-        }
-        let due = match end.status {
-            None => Due::Failure(end),
-            Some(status) if is_error_status(status) => Due::Error(end),
-            Some(_) => Due::Answer,
-        };
-        match due {
-            Due::Failure(_) => self.failure = Some(end),
-            Due::Error(_) => self.error = Some(end),
-            Due::Answer => {}
-        }
-        if may_be_for(end.cause, claim.exchange) && asks_the_same(claim, &end.method) {
-            self.due = due;
-        }
-    }
-
     // Takes in what one of the target made of the response that is named, or might have, since it is as it is: what freshened it;
     // what invalidated it, where no 304 before that might have helped; a 200 to HEAD that is about it; and a 304 that isn't. Such
     // a one might have been about it in the window, but for those before one that was; or, where it is invalidated, at any time.
-    fn take_change(&mut self, known: &Explanation<'_>, end: &'a End) -> Result<(), AllocError> {
+    fn take_change(&mut self, known: &Explanation<'_>, end: &'a End) -> Result<(), AllocError>
+        ensures { OnOk result (told_of self.new ≡ told_of self.old) }
+    {
         let Some(nearest) = &known.nearest else {
             return Ok(());
         };
-        let position = end.record.position;
+        let position = end.named.position;
         let validated_at = nearest.state.validated_at;
-        if validated_at == Some(position) {
-            self.validator = Some(end);
-        }
         let is_since = validated_at.unwrap_or(nearest.position) < position;
-        if is_since {
-            self.take_since(known.alloc, nearest, end)?;
-        }
+        self.take_since(known.alloc, nearest, end, is_since)?;
         let is_awaited = if nearest.breaks() == Some(Rule::Valid) {
             is_since
         } else {
@@ -282,13 +361,19 @@ impl<'a> Ends<'a> {
         }
     }
 
-    // Takes in what invalidated the response that is named, or a 200 to HEAD that is about it.
+    // Takes in what invalidated the response that is named since it is as it is, or a 200 to HEAD that is about it.
     fn take_since(
         &mut self,
         alloc: Global,
         nearest: &Nearest<'_>,
         end: &'a End,
-    ) -> Result<(), AllocError> {
+        is_since: bool,
+    ) -> Result<(), AllocError>
+        ensures { OnOk result (told_of self.new ≡ told_of self.old) }
+    {
+        if !is_since {
+            return Ok(());
+        }
         let Some(status) = end.status else {
             return Ok(());
         };
@@ -317,6 +402,23 @@ impl<'a> Ends<'a> {
 }
 
 impl End {
+    // Whether its forward may have been made for the request of the reply that claims that, and asks the same.
+    fn is_asked_for(&self, claim: &ReplyClaim<'_>) -> bool
+        ensures { result ≡ (may_answer claim.now (end_seen self.now) && asks_the_same claim.now self.now.method) }
+    {
+        self.may_answer(claim) && asks_the_same(claim, &self.method)
+    }
+
+    // Whether it is an error of the origin.
+    fn is_error(&self) -> bool
+        ensures { result ≡ is_error_by_status self.now.status }
+    {
+        match self.status {
+            Some(status) => is_error_status(status),
+            None => false,
+        }
+    }
+
     // Whether it is a 200 to HEAD.
     fn is_ok_to_head(&self) -> bool {
         is_head(&self.method) && self.status == Some(StatusCode::OK)
@@ -336,6 +438,26 @@ fn copied(alloc: Global, state: &Stored) -> Result<Stored, AllocError> {
     })
 }
 
+impl<'a> Explanation<'a> {
+    // The end of a forward by which the response that is named was validated last.
+    fn validator(&self) -> Option<&'a End>
+        ensures { place_of_end (option_copied result)
+            ≡ place_among self.now.claim.target (validated_in self.now.nearest) (map end_seen self.now.past.now.ends.items) }
+    {
+        let Some(nearest) = &self.nearest else {
+            return None;
+        };
+        let Some(position) = nearest.state.validated_at else {
+            return None;
+        };
+        let (older, newer) = self.past.ends.as_slices();
+        match end_at(older, self.claim.target, position) {
+            Some(end) => Some(end),
+            None => end_at(newer, self.claim.target, position),
+        }
+    }
+}
+
 impl Explanation<'_> {
     // Whether the response that is named would keep the rule that it breaks, and the reply have its fields, had that answer
     // freshened it; a 200 to HEAD validates nothing.
@@ -346,12 +468,12 @@ impl Explanation<'_> {
         let Some(rule) = nearest.breaks() else {
             return Ok(false);
         };
-        let (sent_at, came_at) = (sent.moment, end.record.moment);
+        let (sent_at, came_at) = (sent.moment, end.named.moment);
         if END_OF_MOMENTS <= came_at {
             return Ok(false);
         }
         let mut state = copied(self.alloc, nearest.state)?;
-        state.freshen(&heads.response, sent_at, came_at, end.record.position)?;
+        state.freshen(&heads.response, sent_at, came_at, end.named.position)?;
         if end.is_ok_to_head() {
             state.invalid = nearest.state.invalid;
             state.validated_at = nearest.state.validated_at;
@@ -383,9 +505,9 @@ impl Explanation<'_> {
 
 // Tells a response that invalidated another one.
 fn tell_invalidator<T: Teller>(end: &End, teller: &mut T) {
-    teller.place(end.record);
+    teller.place(end.named);
     teller.some_record("forward", end.sent);
-    teller.record("", end.record);
+    teller.record("", end.named);
     end.tell_status("status", ", a ", teller);
     teller.method("method", " to the ", &end.method, " ");
     if let Some(sent) = end.sent {
@@ -434,12 +556,12 @@ impl Explanation<'_> {
         let Some(heads) = &end.heads else {
             return;
         };
-        teller.place(end.record);
+        teller.place(end.named);
         teller.some_record("forward", end.sent);
-        teller.record("; the 304 ", end.record);
+        teller.record("; the 304 ", end.named);
         end.say_sent(teller);
         let is_invalid = nearest.breaks() == Some(Rule::Valid);
-        let is_before = end.record.position < self.claim.since;
+        let is_before = end.named.position < self.claim.since;
         teller.words(if self.was_validated(nearest) || is_invalid || is_before {
             ", came since"
         } else {

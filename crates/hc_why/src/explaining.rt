@@ -1,13 +1,16 @@
 //! What is known of one reply, right or wrong.
 
-ghost use Rattle.std.specs.Prelude.{◌≡◌, List, true, is_some, IfOk, IfSome, IsSome, OnOk};
+ghost use Rattle.std.specs.Prelude.{◌≡◌, List, map, option_copied, true, is_some, IfOk, IfSome, IsSome, OnOk};
+ghost use Rattle.hc_head.specs.declared.head.Target.{Target};
 ghost use Rattle.hc_transcript.specs.History.{exchange_of};
 ghost use Rattle.hc_transcript.specs.Items.{Item};
 ghost use Rattle.hc_history.specs.Right.{IsFinding};
 ghost use Rattle.hc_history.specs.Seen.{IsSeenAs};
 ghost use Rattle.hc_audit.specs.Hearing.{IsReplyBehind};
 ghost use Rattle.hc_gaps.specs.Stale.{settings_with};
-ghost use Rattle.hc_why.specs.Explaining.{Explains, Leaves};
+ghost use Rattle.hc_why.specs.Due.{none_told, place_among, place_of_end, told_by_all, told_of};
+ghost use Rattle.hc_why.specs.Explaining.{Explains, Leaves, TellsValidator, TellsWindow};
+ghost use Rattle.hc_why.specs.Remembered.{IsPastOf, end_seen};
 
 use crate::changes::Ends;
 use crate::past::{End, Past, fields_of};
@@ -201,6 +204,11 @@ impl<'a> Explanation<'a> {
     ) -> Result<Option<Self>, AllocError>
         ensures is { (h : List Item) → IsReplyBehind I.seen h judged.now → IfOk result (λ found. IfSome found (Explains judged.now h)) }
         ensures there { (h : List Item) → IsReplyBehind I.seen h judged.now → IfOk result (λ found. is_some found ≡ true) }
+        // What it tells of the window is so, where all is remembered that the items before the reply have for its path.
+        ensures told { (h : List Item) (target : Target) → IsReplyBehind I.seen h judged.now → IsPastOf target h past.now
+            → IfOk result (λ found. IfSome found (λ explanation. explanation.claim.target.path ≡ target.path → TellsWindow h explanation)) }
+        ensures validator { (h : List Item) (target : Target) → IsReplyBehind I.seen h judged.now → IsPastOf target h past.now
+            → IfOk result (λ found. IfSome found (λ explanation. explanation.claim.target.path ≡ target.path → TellsValidator explanation)) }
     {
         let Some(claim) = judged.claim() else {
             return Ok(None);
@@ -244,7 +252,10 @@ impl<'a> Explanation<'a> {
         named: Option<Candidate>,
         bound: u64,
     ) -> Result<(), AllocError>
-        ensures { OnOk result (Leaves self.old self.new) }
+        ensures leaves { OnOk result (Leaves self.old self.new) }
+        ensures told { OnOk result (told_of self.new.ends ≡ told_by_all self.new.claim none_told (map end_seen self.new.past.now.ends.items)) }
+        ensures validator { OnOk result (IfSome self.new.nearest (λ nearest. place_of_end (option_copied self.new.ends.validator)
+            ≡ place_among self.new.claim.target nearest.state.now.validated_at (map end_seen self.new.past.now.ends.items))) }
     {
         list(
             &mut self.reaches,
@@ -262,7 +273,8 @@ impl<'a> Explanation<'a> {
 
     // Takes in what is asked where what was done is permitted.
     fn fill_permitted(&mut self) -> Result<(), AllocError>
-        ensures { OnOk result (Leaves self.old self.new) }
+        ensures leaves { OnOk result (Leaves self.old self.new) }
+        ensures ends { OnOk result (self.new.ends ≡ self.old.ends) }
     {
         if self.why.is_none() && self.way == Way::Forwarded && self.ends.carried.is_some() {
             self.nearest = None;
@@ -315,7 +327,7 @@ impl<'a> Explanation<'a> {
     /// The record of the response at that position, if it is named.
     pub fn source(&self, position: u64) -> Option<&'a End> {
         for end in self.ends.sources.iter() {
-            if end.record.position == position {
+            if end.named.position == position {
                 return Some(*end);
             }
         }
@@ -329,7 +341,7 @@ impl<'a> Explanation<'a> {
             (times.date, times.response_time)
         } else {
             let source = self.source(nearest.position)?;
-            (date_stated(fields_of(Some(source))?)?, source.record.moment)
+            (date_stated(fields_of(Some(source))?)?, source.named.moment)
         };
         if date == came { None } else { Some(date) }
     }
@@ -372,7 +384,7 @@ impl<'a> Explanation<'a> {
             return None;
         }
         let carried = self.ends.carried?;
-        let is_told = carried.cause == ToldCause::Exchange(self.claim.exchange);
+        let is_told = carried.told_cause(&self.claim) == ToldCause::Exchange(self.claim.exchange);
         let is_own = is_told || self.past.is_alone(self.claim.since);
         if is_own && carried.is_given(&self.claim) {
             Some(carried)

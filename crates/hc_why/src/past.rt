@@ -1,6 +1,8 @@
 //! What is remembered of the records before a reply: how the forwards ended.
 
-ghost use Rattle.std.specs.Prelude.{◌≡◌};
+ghost use Rattle.std.specs.Prelude.{◌≡◌, ◌&&◌, IfOk, OnOk, bytes_eq, option_copied};
+ghost use Rattle.hc_head.specs.Targets.{same_target};
+ghost use Rattle.hc_transcript.specs.Records.{told_in};
 
 use hc_audit::PassedRecord;
 use hc_fields::{Fields, Octets, SharedOctets};
@@ -38,15 +40,15 @@ pub struct Heads {
 #[derive(Drop)]
 pub struct End {
     /// Its record.
-    pub record: RecordName,
+    pub named: RecordName,
     /// The record of the forward, where one target alone is remembered.
     pub sent: Option<RecordName>,
     /// What the forward asked for.
     pub target: Target,
     /// By which method.
     pub method: Method,
-    /// What is told of the exchange that it was made for.
-    pub cause: ToldCause,
+    /// The exchange that it was made for: none where no reply waits for it, and in the first format.
+    pub cause: Option<u64>,
     /// The status of what the origin answered; none where it failed.
     pub status: Option<StatusCode>,
     /// What forbids to store the answer, if something does.
@@ -113,7 +115,9 @@ pub(crate) fn copied_request(alloc: Global, head: &RequestHead) -> Result<Reques
 }
 
 // The record that passed, of that kind.
-fn record_of<I>(passed: &PassedRecord<'_, I>, kind: Kind) -> RecordName {
+fn record_of<I>(passed: &PassedRecord<'_, I>, kind: Kind) -> RecordName
+    ensures { result ≡ record { position = passed.now.position; kind = kind; number = passed.now.item.now.number; moment = passed.now.item.now.moment } }
+{
     RecordName {
         position: passed.position,
         kind,
@@ -123,8 +127,17 @@ fn record_of<I>(passed: &PassedRecord<'_, I>, kind: Kind) -> RecordName {
 }
 
 impl Past {
+    ghost use Rattle.std.specs.Prelude.{List, [], ◌∷◌, IsSome};
+    ghost use Rattle.hc_head.specs.declared.head.Target.{Target};
+    ghost use Rattle.hc_transcript.specs.History.{cause_of, forward_of};
+    ghost use Rattle.hc_transcript.specs.Items.{Item};
+    ghost use Rattle.hc_audit.specs.Hearing.{IsRecordBehind, item_passed};
+    ghost use Rattle.hc_why.specs.Remembered.{EndSeen, IsPastOf, Remembers, answered_by, end_seen, ends_with, named_as};
+
     /// Nothing, so far, of that target, of which all is remembered; or of all targets, of which the latest is.
-    pub fn new(alloc: Global, only: Option<Target>) -> Result<Self, AllocError> {
+    pub fn new(alloc: Global, only: Option<Target>) -> Result<Self, AllocError>
+        ensures { (target : Target) → only ≡ Some target → IfOk result (IsPastOf target []) }
+    {
         let targets = NonZeroUsize::new(MOST_TARGETS).unwrap();
         Ok(Past {
             alloc,
@@ -142,34 +155,73 @@ impl Past {
     // Whether what was asked for has the path of the one target, where it is one.
     fn is_of_one(&self, target: &Target) -> bool {
         match &self.only {
-            Some(only) => only.path == target.path,
+            Some(only) => target.path == only.path,
             None => false,
         }
     }
 
+    // Whether it is remembered how the forwards for that target ended.
+    fn is_remembered(&self, target: &Target) -> bool
+        ensures { (one : Target) → self.now.only ≡ Some one → result ≡ bytes_eq target.now.path one.path }
+    {
+        match &self.only {
+            Some(only) => target.path == only.path,
+            None => true,
+        }
+    }
+
     /// Takes in the next record, which is no reply. It fails only where memory is refused.
-    pub fn pass<I: Index>(&mut self, passed: &PassedRecord<'_, I>) -> Result<(), AllocError> {
-        let item = passed.item;
-        match &item.of {
-            Meaning::OriginRequest { target, .. } if self.is_of_one(target) => {
-                let record = record_of(passed, Kind::OriginRequest);
-                self.sent.insert(item.number, record)?;
-                Ok(())
-            }
-            Meaning::ClientRequest { target, .. } if self.is_of_one(target) => {
-                self.asked.insert(item.number, passed.position)?;
-                Ok(())
-            }
+    pub fn pass<I: Index>(&mut self, passed: &PassedRecord<'_, I>) -> Result<(), AllocError>
+        // Of one target it is the past of all items, if it was that of those before.
+        ensures { (h : List Item) (target : Target) → IsPastOf target h self.old → IsRecordBehind I.seen h passed.now
+            → OnOk result (IsPastOf target (item_passed passed.now ∷ h) self.new) }
+    {
+        match &passed.item.of {
+            Meaning::OriginRequest { target, .. } => self.take_sent(passed, target),
+            Meaning::ClientRequest { target, .. } => self.take_asked(passed, target),
             Meaning::OriginResponse(response) => {
                 self.take(passed, Kind::OriginResponse, Some(response))
             }
             Meaning::OriginFailure => self.take(passed, Kind::OriginFailure, None),
-            _ => Ok(()),
+            Meaning::ClientReply(_) => Ok(()),
         }
     }
 
+    // Takes in a forward for that target.
+    fn take_sent<I: Index>(
+        &mut self,
+        passed: &PassedRecord<'_, I>,
+        target: &Target,
+    ) -> Result<(), AllocError>
+        ensures { (one : Target) (ends : List EndSeen) → Remembers one ends self.old → Remembers one ends self.new }
+    {
+        if !self.is_of_one(target) {
+            return Ok(());
+        }
+        let named = record_of(passed, Kind::OriginRequest);
+        self.sent.insert(passed.item.number, named)?;
+        Ok(())
+    }
+
+    // Takes in a request for that target.
+    fn take_asked<I: Index>(
+        &mut self,
+        passed: &PassedRecord<'_, I>,
+        target: &Target,
+    ) -> Result<(), AllocError>
+        ensures { (one : Target) (ends : List EndSeen) → Remembers one ends self.old → Remembers one ends self.new }
+    {
+        if !self.is_of_one(target) {
+            return Ok(());
+        }
+        self.asked.insert(passed.item.number, passed.position)?;
+        Ok(())
+    }
+
     /// Takes in a reply to an exchange of the one target.
-    pub fn answer(&mut self, exchange: u64, position: u64) {
+    pub fn answer(&mut self, exchange: u64, position: u64)
+        ensures { (one : Target) (ends : List EndSeen) → Remembers one ends self.old → Remembers one ends self.new }
+    {
         if self.asked.remove(&exchange).is_some() {
             self.answered = position;
         }
@@ -186,89 +238,158 @@ impl Past {
         passed: &PassedRecord<'_, I>,
         kind: Kind,
         response: Option<&Message<ResponseHead>>,
-    ) -> Result<(), AllocError> {
-        let Some(forward) = passed.index.forward(passed.item.number) else {
+    ) -> Result<(), AllocError>
+        ensures { (h : List Item) (one : Target) (ends : List EndSeen) → Remembers one ends self.old → IsRecordBehind I.seen h passed.now
+            → OnOk result (Remembers one (ends_with one.path (named_as kind passed.now.position passed.now.item.now.number passed.now.item.now.moment) (cause_of passed.now.item.now.number h) (option_copied response.entry)
+            (forward_of passed.now.item.now.number h) ends) self.new) }
+    {
+        let number = passed.item.number;
+        let Some(forward) = passed.index.forward(number) else {
             return Ok(());
         };
-        if self.only.is_some() && !self.is_of_one(&forward.target) {
+        if !self.is_remembered(&forward.target) {
             return Ok(());
         }
-        let mut end = End {
-            record: record_of(passed, kind),
-            sent: self.sent.remove(&passed.item.number),
-            target: forward.target.copy(self.alloc)?,
-            method: forward.request.method.clone()?,
-            cause: ToldCause::told_in(passed.format, forward.cause),
-            status: None,
-            forbids: None,
-            body: None,
-            heads: None,
-        };
-        if let Some(response) = response {
-            self.take_answer(&mut end, &forward.request, response)?;
-        }
+        let sent = self.sent.remove(&number);
+        let mut end = End::begun(self.alloc, record_of(passed, kind), sent, forward)?;
+        self.take_answer(&mut end, &forward.request, response)?;
         self.make_room();
         self.ends.push_back(end)?;
         Ok(())
     }
 
-    // Takes in what is remembered of the answer to that request: where one target alone is, all of it.
+    // Takes in what is remembered of the answer to that request, if there is one: where one target alone is, all of it.
     fn take_answer(
         &mut self,
         end: &mut End,
         request: &RequestHead,
-        response: &Message<ResponseHead>,
-    ) -> Result<(), AllocError> {
+        response: Option<&Message<ResponseHead>>,
+    ) -> Result<(), AllocError>
+        ensures kept { (one : Target) (ends : List EndSeen) → Remembers one ends self.old → Remembers one ends self.new }
+        ensures taken { IsSome self.old.only → OnOk result (end_seen end.new ≡ answered_by (option_copied response.entry) (end_seen end.old)) }
+    {
+        let Some(response) = response else {
+            return Ok(());
+        };
         let head = &response.head;
-        end.status = Some(head.status);
         let forbids = what_forbids(request, head);
-        if !forbids.is_nothing() {
-            end.forbids = Some(forbids);
-            self.forbid(&end.target, forbids)?;
-        }
-        let is_whole = self.only.is_some();
-        if is_whole || response.body.len() <= LONGEST_BODY {
-            end.body = Some(response.body.share()?);
-        }
-        if is_whole {
-            end.heads = Some(Heads {
-                forward: copied_request(self.alloc, request)?,
-                response: ResponseHead {
-                    status: head.status,
-                    version: head.version,
-                    fields: head.fields.copy(self.alloc)?,
-                },
-            });
-        }
+        end.forbids = if forbids.is_nothing() {
+            None
+        } else {
+            Some(forbids)
+        };
+        self.forbid(&end.target, end.forbids)?;
+        end.status = Some(head.status);
+        end.body = self.remembered_body(&response.body)?;
+        end.heads = self.remembered_heads(request, head)?;
         Ok(())
     }
 
-    // Takes in what forbids to store the latest response of a target.
-    fn forbid(&mut self, target: &Target, forbids: Forbids) -> Result<(), AllocError> {
+    // The body of an answer, if it is remembered: of one target each is, and else one that isn't too long.
+    fn remembered_body(&self, body: &SharedOctets) -> Result<Option<SharedOctets>, AllocError>
+        ensures { IsSome self.now.only → IfOk result (λ remembered. remembered ≡ Some body.now) }
+    {
+        if self.only.is_some() || body.len() <= LONGEST_BODY {
+            return Ok(Some(body.share()?));
+        }
+        Ok(None)
+    }
+
+    // The heads, if they are remembered.
+    fn remembered_heads(
+        &self,
+        request: &RequestHead,
+        head: &ResponseHead,
+    ) -> Result<Option<Heads>, AllocError> {
+        if self.only.is_none() {
+            return Ok(None);
+        }
+        Ok(Some(Heads {
+            forward: copied_request(self.alloc, request)?,
+            response: ResponseHead {
+                status: head.status,
+                version: head.version,
+                fields: head.fields.copy(self.alloc)?,
+            },
+        }))
+    }
+
+    // Takes in what forbids to store the latest response of a target, if something does.
+    fn forbid(&mut self, target: &Target, forbids: Option<Forbids>) -> Result<(), AllocError>
+        ensures { (one : Target) (ends : List EndSeen) → Remembers one ends self.old → Remembers one ends self.new }
+    {
+        let Some(forbids) = forbids else {
+            return Ok(());
+        };
         let is_new = !self.forbidden.contains(target);
         let target = target.copy(self.alloc)?;
         let forgotten = self.forbidden.push(target, forbids)?;
-        if is_new && forgotten.is_some() {
-            self.has_forgotten_target = true;
-        }
+        self.has_forgotten_target = self.has_forgotten_target || (is_new && forgotten.is_some());
         Ok(())
     }
 
     // Forgets the oldest end where as many are remembered as may be, of all targets.
-    fn make_room(&mut self) {
-        if self.only.is_some() || self.ends.len() < MOST_ENDS {
+    fn make_room(&mut self)
+        ensures { (one : Target) (ends : List EndSeen) → Remembers one ends self.old → Remembers one ends self.new }
+    {
+        if self.only.is_some() {
+            return;
+        }
+        if self.ends.len() < MOST_ENDS {
             return;
         }
         if let Some(oldest) = self.ends.pop_front() {
-            self.forgotten = oldest.record.position;
+            self.forgotten = oldest.named.position;
         }
     }
 }
 
 impl End {
+    ghost use Rattle.hc_index.specs.Lists.{forward_seen};
+    ghost use Rattle.hc_why.specs.Due.{carries_answer, may_answer};
+    ghost use Rattle.hc_why.specs.Remembered.{end_by, end_seen};
+
+    // That of an open forward, of which no answer is known yet.
+    fn begun(
+        alloc: Global,
+        named: RecordName,
+        sent: Option<RecordName>,
+        forward: &OpenForward,
+    ) -> Result<Self, AllocError>
+        ensures { IfOk result (λ end. end_seen end ≡ end_by named forward.now.cause None (forward_seen forward.now)) }
+    {
+        Ok(End {
+            named,
+            sent,
+            target: forward.target.copy(alloc)?,
+            method: forward.request.method.clone()?,
+            cause: forward.cause,
+            status: None,
+            forbids: None,
+            body: None,
+            heads: None,
+        })
+    }
+
     /// Whether it is of that target.
-    pub(crate) fn is_of(&self, target: &Target) -> bool {
+    pub(crate) fn is_of(&self, target: &Target) -> bool
+        ensures { result ≡ same_target self.now.target target.now }
+    {
         same_target(&self.target, target)
+    }
+
+    /// What is told of the exchange that its forward was made for, in the recording of that reply.
+    pub(crate) fn told_cause(&self, claim: &ReplyClaim<'_>) -> ToldCause
+        ensures { result ≡ told_in claim.now.format self.now.cause }
+    {
+        ToldCause::told_in(claim.format, self.cause)
+    }
+
+    /// Whether its forward may have been made for the reply that claims that, as far as that is told.
+    pub(crate) fn may_answer(&self, claim: &ReplyClaim<'_>) -> bool
+        ensures { result ≡ may_answer claim.now (end_seen self.now) }
+    {
+        may_be_for(self.told_cause(claim), claim.exchange)
     }
 
     /// Whether the answer is known to have that field.
@@ -281,7 +402,7 @@ impl End {
 
     /// Whether it stands between the request and the reply that claims that.
     pub(crate) fn is_in_window(&self, claim: &ReplyClaim<'_>) -> bool {
-        claim.since < self.record.position && self.is_of(claim.target)
+        claim.since < self.named.position && self.is_of(claim.target)
     }
 
     /// Whether the reply has its status and its body, or no body where it answers HEAD.
@@ -294,15 +415,26 @@ impl End {
             && has_body(&claim.request.method, told, body.as_slice())
     }
 
-    /// Whether the reply carries it: what came for its request, or a part of that where ranges are allowed.
-    pub(crate) fn is_carried(&self, claim: &ReplyClaim<'_>) -> bool {
-        if !self.is_in_window(claim) || !may_be_for(self.cause, claim.exchange) {
+    // Whether what is known of the answer is what the reply carries.
+    fn is_what_came(&self, claim: &ReplyClaim<'_>) -> bool
+        ensures { result ≡ carries_answer claim.now self.now.method self.now.status self.now.body }
+    {
+        let Some(status) = self.status else {
             return false;
-        }
-        match (self.status, &self.body) {
-            (Some(status), Some(body)) => carries(claim, &self.method, status, body.as_slice()),
-            _ => false,
-        }
+        };
+        let Some(body) = &self.body else {
+            return false;
+        };
+        carries(claim, &self.method, status, body.as_slice())
+    }
+
+    /// Whether the reply carries it, if it stands in the window: what came for its request, or a part of that where ranges are
+    /// allowed.
+    pub(crate) fn is_carried(&self, claim: &ReplyClaim<'_>) -> bool
+        ensures { result ≡ (may_answer claim.now (end_seen self.now)
+            && carries_answer claim.now self.now.method self.now.status self.now.body) }
+    {
+        self.may_answer(claim) && self.is_what_came(claim)
     }
 }
 

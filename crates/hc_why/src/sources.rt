@@ -24,14 +24,14 @@ impl End {
             return;
         };
         let fields = &heads.response.fields;
-        teller.place(self.record);
+        teller.place(self.named);
         teller.some_record("forward", self.sent);
         if !teller.is_text() {
             teller.method("method", "", &self.method, "");
         }
         teller.flag("given", self.is_given(claim));
         teller.flag("dated", fields.contains(b"date"));
-        teller.moment(self.record.moment);
+        teller.moment(self.named.moment);
         self.tell_status("status", "  ", teller);
         tell_lifetime(fields, teller);
         if fields.contains(b"age") {

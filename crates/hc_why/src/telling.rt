@@ -17,7 +17,7 @@ impl<'a> Explanation<'a> {
     // What the age of the response is counted from.
     fn age_origin(&self, nearest: &Nearest<'_>) -> AgeOrigin {
         let (validator, sent) = match self.ends.validator {
-            Some(validator) => (Some(validator.record), validator.sent),
+            Some(validator) => (Some(validator.named), validator.sent),
             None if nearest.state.validated_at.is_some() => (None, None),
             None => (None, self.sent_of(nearest)),
         };
@@ -46,7 +46,7 @@ impl<'a> Explanation<'a> {
         let validator = self.ends.validator;
         FieldsOrigin {
             validator: match (validator, fields_of(validator)) {
-                (Some(validator), Some(renewed)) => Some((validator.record, renewed)),
+                (Some(validator), Some(renewed)) => Some((validator.named, renewed)),
                 _ => None,
             },
             position: nearest.position,
@@ -74,7 +74,7 @@ impl<'a> Explanation<'a> {
         selection.tell(&self.claim, nearest.state, place, teller);
         match self.ends.validator {
             Some(validator) if self.was_validated(nearest) => {
-                teller.record(", though the 304 ", validator.record);
+                teller.record(", though the 304 ", validator.named);
                 teller.words(" validated it");
             }
             _ => {}

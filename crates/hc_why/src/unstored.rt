@@ -65,8 +65,8 @@ fn say_asked<T: Teller>(end: &End, teller: &mut T) {
 
 // Tells a response, what it is, and what forbids to store it.
 fn tell_forbidden<T: Teller>(end: &End, forbids: &Forbids, teller: &mut T) {
-    teller.place(end.record);
-    teller.record("", end.record);
+    teller.place(end.named);
+    teller.record("", end.named);
     end.tell_status("status", " (", teller);
     match &end.heads {
         Some(heads) if teller.is_text() => tell_lifetime(&heads.response.fields, teller),

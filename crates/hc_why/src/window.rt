@@ -1,9 +1,12 @@
 //! What came between a request and its reply.
 
+ghost use Rattle.std.specs.Prelude.{◌≡◌};
+ghost use Rattle.hc_history.specs.Forwarded.{asks_the_same};
+
 use crate::past::{End, Past};
 use hc_gaps::{BodyGap, Newest, body_gap};
 use hc_head::{Method, StatusCode, is_get, is_head};
-use hc_history::{ReplyClaim, may_be_for};
+use hc_history::ReplyClaim;
 use hc_shown::Teller;
 use hc_transcript::ToldCause;
 
@@ -42,9 +45,11 @@ pub struct Window {
 }
 
 // Whether a forward of that method asks what the request asks: by its method, or by GET for HEAD.
-pub(crate) fn asks_the_same(claim: &ReplyClaim<'_>, method: &Method) -> bool {
+pub(crate) fn asks_the_same(claim: &ReplyClaim<'_>, method: &Method) -> bool
+    ensures { result ≡ asks_the_same claim.now method.now }
+{
     let asked = &claim.request.method;
-    method == asked || (is_head(asked) && is_get(method))
+    *method == *asked || (is_head(asked) && is_get(method))
 }
 
 /// Whether a reply of that status is a part, or says that there is none.
@@ -58,7 +63,7 @@ impl End {
         let Some(status) = self.status else {
             return Apart::Failure;
         };
-        if !may_be_for(self.cause, claim.exchange) {
+        if !self.may_answer(claim) {
             return Apart::Cause(status);
         }
         if !asks_the_same(claim, &self.method) {
@@ -86,7 +91,7 @@ impl End {
 
     /// Whether it stands in the window, and the reply would carry it, if the host of its target were that of the reply's.
     pub(crate) fn is_near(&self, claim: &ReplyClaim<'_>) -> bool {
-        claim.since < self.record.position
+        claim.since < self.named.position
             && !self.is_of(claim.target)
             && self.target.path == claim.target.path
             && matches!(self.apart(claim), Apart::Nothing)
@@ -115,7 +120,7 @@ impl Window {
     // Takes in the end of a forward of the target.
     fn take(&mut self, claim: &ReplyClaim<'_>, end: &End) {
         let is_later = end.status.is_some() || self.latest.is_none();
-        if is_later && may_be_for(end.cause, claim.exchange) {
+        if is_later && end.may_answer(claim) {
             self.latest = Some(end.apart(claim));
         }
         self.has_response = self.has_response || end.status.is_some();
@@ -212,9 +217,9 @@ impl Window {
         for (place, end) in ends.named.iter().enumerate() {
             teller.separator(place == 0, "", ", ");
             teller.begin_item();
-            teller.place(end.record);
-            teller.record("", end.record);
-            tell_cause(end.cause, teller);
+            teller.place(end.named);
+            teller.record("", end.named);
+            tell_cause(end.told_cause(claim), teller);
             end.apart(claim).tell(end, teller);
             teller.end();
         }
