@@ -13,7 +13,7 @@ from walks import (AGE, BODY, FIELDS, HEURISTIC, INVALIDATED, LIFETIME, OF_CONTE
 
 OWN, WRONG_MARK = "no RFC", {"9211 2.1"}
 STORING = {"request_no_store": "9111 5.2.1.5", "authorization": "9111 3.5", "no_store": "9111 5.2.2.5",
-           "private": "9111 5.2.2.7", "must_understand": "9111 5.2.2.3", "uninvited": "9111 3"}
+           "private": "9111 5.2.2.7", "uninvited": "9111 3"}
 STALE = {"no-cache": "9111 5.2.2.4", "must-revalidate": "9111 5.2.2.2", "proxy-revalidate": "9111 5.2.2.8",
          "s-maxage": "9111 5.2.2.10"}
 SINGLE = {"date", "expires", "last-modified", "etag", "set-cookie"}  # what is no list
@@ -93,19 +93,27 @@ def leaves_out(response, name, told):
 
 def storing(reply, response):
     """What is asked by what forbids to store a response (RFC 9111 section 3)."""
-    forbidden, method = walks.forbids(response), response.of.method
-    if leaves_out(response, "private", reply.record.fields):
-        if not reply.is_given(response):
-            return {STORING[word] for word in forbidden if word in STORING} | {OWN}
-        forbidden.discard("private")
+    forbidden = walks.forbids(response)
+    if not leaves_out(response, "private", reply.record.fields):
+        return storing_but(reply, response, forbidden)
+    found = storing_but(reply, response, forbidden - {"private"})
+    return found if reply.is_given(response) else found | {STORING["private"]}
+
+
+def storing_but(reply, response, forbidden):
+    """The same by that of it alone."""
+    method = response.of.method
     found = {STORING[word] for word in forbidden if word in STORING}
-    found |= {"9111 3"} if "must_understand" in forbidden else set()
-    if found or "method" not in forbidden:
-        return found or ({OWN, "9111 3"} if "status" in forbidden else {OWN})
-    if method == "HEAD":  # RFC 9110 section 9.3.2 lets it answer HEAD.
-        by_status = {"9111 3"} if "status" in forbidden else set()
-        return by_status | ({OWN} if reply.is_head else {OWN, "9111 4", "9110 9.3.2"})
-    return {OWN, "9111 3", "9111 4", "9110 9.3.3", "9110 9.3.4", "9110 9.3.5"}
+    if response.status == 206 and reply.record.status != 206:
+        found |= {"9111 3.3"}  # Parts may be stored, and a part isn't given as the whole.
+    if found or "method" not in forbidden or response.status == 304 or method == "HEAD" and reply.is_head:
+        return found or {OWN}  # Which statuses it understands is a cache's affair.
+    if method == "HEAD":
+        return {"9111 4", "9110 9.3.2"}
+    is_stated = directives(response.fields).keys() & {"s-maxage", "max-age"} or values(response.fields, "expires")
+    is_cacheable = is_stated and values(response.fields, "content-location")
+    never = method in ("PUT", "DELETE", "CONNECT", "OPTIONS", "TRACE") or method == "POST" and not is_cacheable
+    return {"9110 9.3", "9110 9.3.3", "9110 9.3.4", "9110 9.3.5", "9110 9.3.7", "9110 9.3.8"} if never else {OWN}
 
 
 def no_response(reply, _):
@@ -113,8 +121,9 @@ def no_response(reply, _):
     unstored = [end for end in reply.ends if end.kind == "r" and walks.forbids(end)]
     given = [end for end in unstored if reply.is_given(end)]
     if reply.request.method not in ("GET", "HEAD"):
-        return {"9111 3", "9111 4", "9110 9.3.3", "9110 9.3.7", "9110 9.3.8"}
-    return storing(reply, (given or unstored)[-1]) if unstored else {"9111 3", "9111 4"}
+        return {"9111 4", "9110 9.3.3", "9110 9.3.7", "9110 9.3.8"}
+    # What isn't recorded may be stored from before.
+    return storing(reply, (given or unstored)[-1]) if unstored else {OWN}
 
 
 # -- What may be used
@@ -127,8 +136,11 @@ def selecting(reply, state):
     if all(means_the_same(name, joined(state.asked, name), joined(asked, name)) for name in names):
         return {OWN}
     behind = [each for each in state.not_about if each[0].position > reply.since]
-    if "*" in names and any(walks.against(*each) == {"vary"} for each in behind):
+    if any(walks.against(*each) == {"vary"} for each in behind):
         return {OWN}  # What a 304 about it permits is open.
+    if "*" not in names and all(means_the_same(name, joined(state.asked, name), joined(asked, name))
+                                for name in names if re.fullmatch(walks.TOKEN, name)):
+        return {OWN}  # What is no name names no field.
     is_open = reply.is_validated(state) or any(looser(*each) is not False for each in behind)
     return {OWN, "9111 4.1"} if is_open else {"9111 4.1"}
 
@@ -196,6 +208,8 @@ def content(reply, state):
         return {OWN}
     if record.status in (206, 416):
         return {"9110 14.2", "9110 15.3.7", "9110 15.5.17", "9111 4", "9110 7.7"}
+    if record.status == 203 and state.status == 200 and "no-transform" not in directives(state.fields):
+        return {OWN}  # A proxy may transform a body, and says so by a 203 (RFC 9110 sections 7.7 and 15.3.4).
     is_for_origins = values(asked, "if-match") or values(asked, "if-unmodified-since")
     return {"9111 4.3.2"} if record.status == 412 and is_for_origins else {"9111 4", "9110 7.7"}
 
@@ -227,6 +241,9 @@ def of_field(reply, state, name):
         return {OWN}
     found = {"9110 15.4.5"} if is_304 and (told or name in REPEATED) else set()
     found |= {"9111 4.3.4", "9111 3.2"} if state.validator and values(latest.fields, name) else set()
+    if name == "date" and told and (values(latest.fields, "date") or state.validator) and walks.date_of(
+            joined(latest.fields, "date") or "") is None:
+        return {OWN}  # What a cache makes of it is its affair.
     if name == "date" and not values(latest.fields, "date"):
         return found | {"9110 6.6.1", "9110 7.7" if told else "9111 3.1"}
     return found or ({"9110 7.7", "9111 3.1"} if told else {"9111 3.1"})
@@ -257,8 +274,11 @@ def age(reply, state):
 
 
 def ttl(reply, state):
-    is_open = not state.is_explicit() or state.date < state.response_time or state.not_about
-    return {"9211 2.4"} | ({OWN} if is_open else set())
+    """What is asked of the seconds of a mark (RFC 9211 section 2.4), which count a lifetime that the cache itself gives."""
+    said = [walks.seconds(state.fields, name) for name in ("s-maxage", "max-age")]
+    if not state.is_explicit() or isinstance(next((each for each in said if each is not None), None), str):
+        return {OWN}
+    return {"9211 2.4"} | ({OWN} if state.date < state.response_time or state.not_about else set())
 
 
 BY_RULE = {1: no_response, VARY: selecting, INVALIDATED: invalidated, LIFETIME: lifetime, USE: using, BODY: content,
@@ -300,7 +320,10 @@ def of_forwarded(reply, state):
 
 def of_collapsed(reply, state):
     """What is asked of what was collapsed. What waits may be answered by what is stored then (RFC 9211 section 2.6)."""
-    was_stored = any(reply.is_validated(each) for each in reply.states if each.position < reply.since)
+    before = [each for each in reply.states if each.position < reply.since]
+    if any(not reply.breaks(each) for each in before):
+        return {OWN}  # It may be given to any request (RFC 9111 section 4).
+    was_stored = any(reply.is_validated(each) for each in before)
     found = by_rule(reply, state) if state is not None and reply.breaks(state) else set()
     return {"9211 2.6"} | found | ({OWN} if was_stored else set())
 
@@ -311,5 +334,5 @@ def demanded(reply, state):
     if reason < 10:
         return of_hit(reply, by_rule(reply, state) if state and reason > 1 else no_response(reply, state), reason)
     if reason in (11, 12):
-        return {"9211 2", OWN} if reason == 11 else {"9211 2.1", "9211 2.2"}
+        return {OWN} if reason == 11 else {"9211 2.1", "9211 2.2"}
     return of_forwarded(reply, state) if reason == 10 else of_collapsed(reply, state)

@@ -289,7 +289,7 @@ fn tell_no_response<T: Teller>(known: &Explanation<'_>, unstored: &Unstored, tel
     unstored.tell(&known.claim.request.method, &known.ends.unstored, teller);
     teller.words("\n");
     if !unstored.is_unrecorded() {
-        say_due_answer("", given, teller);
+        say_due_answer(known, "", given, teller);
     }
 }
 
@@ -412,7 +412,7 @@ fn say_due<T: Teller>(known: &Explanation<'_>, nearest: &Nearest<'_>, teller: &m
         Some(Shortfall::Selected(_)) => {
             let is_none = known.ends.not_about.is_empty();
             let besides = if is_none { "" } else { " that is no 304" };
-            say_due_answer(besides, known.given(nearest), teller);
+            say_due_answer(known, besides, known.given(nearest), teller);
         }
         Some(Shortfall::Valid | Shortfall::Lifetime(_) | Shortfall::Use(_)) => {
             say_due_unused(known, nearest, teller);
@@ -421,12 +421,37 @@ fn say_due<T: Teller>(known: &Explanation<'_>, nearest: &Nearest<'_>, teller: &m
     }
 }
 
-// Writes the line that an answer of the origin was due, and what came in its place, if it is known that the reply gives
-// this.
-fn say_due_answer<T: Teller>(besides: &str, given: Option<&End>, teller: &mut T) {
+// Begins the line of what was due by what came to the request, and returns whether that is an answer of the origin.
+fn begin_due<T: Teller>(known: &Explanation<'_>, teller: &mut T) -> bool {
     teller.words("due             ");
-    teller.words(ANSWER);
-    teller.words(besides);
+    match known.ends.due {
+        Due::Error(end) => {
+            teller.record("the error ", end.named);
+            end.tell_status("", ", a ", teller);
+            false
+        }
+        Due::Failure(end) => {
+            let before = "an error of the cache's own, as 504, since the forward failed: ";
+            teller.record(before, end.named);
+            false
+        }
+        Due::Answer(_) => {
+            teller.words(ANSWER);
+            true
+        }
+    }
+}
+
+// Writes the line of what was due in place of the store, and what came in its place, if it is known that the reply gives this.
+fn say_due_answer<T: Teller>(
+    known: &Explanation<'_>,
+    besides: &str,
+    given: Option<&End>,
+    teller: &mut T,
+) {
+    if begin_due(known, teller) {
+        teller.words(besides);
+    }
     if let Some(end) = given {
         teller.record("; came ", end.named);
         end.say_sent(teller);
@@ -437,28 +462,10 @@ fn say_due_answer<T: Teller>(besides: &str, given: Option<&End>, teller: &mut T)
 // Writes the line of what was due in place of a response that may not be used: this one, too, once a 304 has validated
 // it, where it has something by which one may.
 fn say_due_unused<T: Teller>(known: &Explanation<'_>, nearest: &Nearest<'_>, teller: &mut T) {
-    let due = match &nearest.shortfall {
-        Some(Shortfall::Valid) => Due::Answer,
-        _ => known.ends.due,
-    };
-    teller.words("due             ");
-    match due {
-        Due::Error(end) => {
-            teller.record("the error ", end.named);
-            end.tell_status("", ", a ", teller);
-        }
-        Due::Failure(end) => {
-            let before = "an error of the cache's own, as 504, since the forward failed: ";
-            teller.record(before, end.named);
-        }
-        Due::Answer => {
-            teller.words(ANSWER);
-            if nearest.has_validator() {
-                teller.count(", or ", nearest.position, " once a 304 has validated it");
-                if let Some(invalidator) = known.ends.invalidators.last() {
-                    teller.count(" after ", invalidator.named.position, "");
-                }
-            }
+    if begin_due(known, teller) && nearest.has_validator() {
+        teller.count(", or ", nearest.position, " once a 304 has validated it");
+        if let Some(invalidator) = known.ends.invalidators.last() {
+            teller.count(" after ", invalidator.named.position, "");
         }
     }
     if let Some(end) = known.given(nearest) {

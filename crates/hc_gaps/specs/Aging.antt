@@ -12,6 +12,7 @@ use Rattle.hc_gaps.specs.declared.aging.AgeParts.{AgeParts}
 use Rattle.hc_gaps.specs.declared.aging.AgeTold.{AgeTold}
 use Rattle.hc_gaps.specs.declared.aging.AgeTold.TheVariants.{Missing, Several, Unreadable, Seconds}
 use Rattle.hc_gaps.specs.declared.aging.TtlGap.{TtlGap}
+use Rattle.hc_gaps.specs.Stale.{is_stated}
 
 -- what Age lines of these values tell (RFC 9111 section 5.1)
 abbrev pub IsAgeTold : List (List ℕ) → AgeTold → Type 0
@@ -38,6 +39,8 @@ ttl_gap_of claim state = record {
   told = claim.ttl;
   lifetime = lifetime_of state;
   age = age_of claim state;
+  parts = parts_of claim state;
+  is_stated = is_stated state.fields;
   slack = claim.settings.slack;
 }
 

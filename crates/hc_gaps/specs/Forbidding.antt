@@ -1,10 +1,12 @@
 -- What forbids to store a response, and to use a stored one.
-use Rattle.std.specs.Prelude.{Bool, ◌&&◌, ◌||◌, not, List, codes, if◌then◌else◌}
+use Rattle.std.specs.Prelude.{ℕ, Bool, ◌&&◌, ◌||◌, ◌==◌, not, List, [], ◌∷◌, bytes_eq, codes, if◌then◌else◌}
+use Rattle.std.specs.List.{list_any}
 use Rattle.hc_fields.specs.declared.fields.Field.{Field}
 use Rattle.hc_head.specs.declared.head.RequestHead.{RequestHead}
 use Rattle.hc_head.specs.declared.head.ResponseHead.{ResponseHead}
-use Rattle.hc_head.specs.Methods.{is_get}
-use Rattle.hc_fresh.specs.Lifetimes.{says}
+use Rattle.hc_fields.specs.Values.{has_name}
+use Rattle.hc_head.specs.Methods.{is_get, is_head}
+use Rattle.hc_fresh.specs.Lifetimes.{explicit, says}
 use Rattle.hc_rules.specs.Storing.{has_authorization, invites_storing, is_not_private, is_storable, is_understood_if_asked, no_store_permits, permits_authorized}
 use Rattle.hc_gaps.specs.declared.storing.Forbids.{Forbids}
 use Rattle.hc_gaps.specs.declared.usage.Unusable.{Unusable}
@@ -12,12 +14,25 @@ use Rattle.hc_gaps.specs.declared.usage.Unusable.TheVariants as forbids_use
 
 -- ---- to store it (RFC 9111 section 3)
 
--- each thing that forbids it, by itself
+-- the methods of which no response is cacheable (RFC 9110 sections 9.3.4 to 9.3.8)
+abbrev pub uncacheable_methods : List (List ℕ)
+uncacheable_methods = codes "CONNECT" ∷ codes "DELETE" ∷ codes "OPTIONS" ∷ codes "PUT" ∷ codes "TRACE" ∷ []
+
+-- the response to a request of that method isn't cacheable; to POST one is that states a lifetime, and has a Content-Location (RFC 9110 section 9.3.3)
+abbrev pub is_uncacheable : List ℕ → ResponseHead → Bool
+is_uncacheable method response =
+    list_any (λ known. bytes_eq known method) uncacheable_methods
+    || (bytes_eq method (codes "POST") && not (explicit response.fields && has_name (codes "content-location") response.fields))
+
+-- each thing that forbids it, by itself, and what bears on whether it may be stored all the same
 abbrev pub forbids_of : RequestHead → ResponseHead → Forbids
 forbids_of forward response = record {
   method = not (is_get forward.method);
+  by_head = is_head forward.method;
+  uncacheable = is_uncacheable forward.method response;
   request_no_store = says (codes "no-store") forward.fields;
   status = not (is_storable response.status);
+  partial = response.status == 206;
   must_understand = not (is_understood_if_asked response);
   no_store = not (no_store_permits response.fields);
   private = not (is_not_private response.fields);

@@ -1,14 +1,16 @@
 -- How stale a response may be served (RFC 9111 section 4.2.4, RFC 5861), and which setting of an audit would permit more.
-use Rattle.std.specs.Prelude.{ℕ, Bool, ◌&&◌, ◌||◌, ◌+◌, ◌-◌, ◌^◌, not, max, min, nat_lt, Option, Some, None, codes, if◌then◌else◌}
+use Rattle.std.specs.Prelude.{ℕ, List, Bool, ◌&&◌, ◌||◌, ◌+◌, ◌-◌, ◌^◌, not, max, min, nat_lt, true, false, Option, Some, None, codes, if◌then◌else◌}
 use Rattle.hc_directives.specs.declared.cache_control.Seconds.{Seconds}
 use Rattle.hc_directives.specs.declared.cache_control.Seconds.TheVariants.{Absent, Bare, Value, Unreadable}
+use Rattle.hc_fields.specs.declared.fields.Field.{Field}
 use Rattle.hc_fresh.specs.Ages.{staleness}
 use Rattle.hc_fresh.specs.Lifetimes.{explicit, says, seconds_said, stale_forbidden}
 use Rattle.hc_rules.specs.Storing.{is_heuristically_cacheable}
 use Rattle.hc_update.specs.declared.stored.Stored.{Stored}
 use Rattle.hc_history.specs.declared.settings.Settings.{Settings}
 use Rattle.hc_history.specs.Claims.{Claim}
-use Rattle.hc_history.specs.Usable.{age_of, lifetime_of}
+use Rattle.hc_history.specs.Allowing.{allowed_staleness}
+use Rattle.hc_history.specs.Usable.{age_of, lifetime_of, meanwhile_permits, permits, request_permits}
 use Rattle.hc_gaps.specs.declared.stale.Setting.{Setting}
 use Rattle.hc_gaps.specs.declared.stale.Setting.TheVariants.{DefaultLifetime, Grace}
 use Rattle.hc_gaps.specs.declared.stale.StaleSaid.{StaleSaid}
@@ -22,6 +24,45 @@ stale_said_of claim state = record {
   if_error = seconds_said (codes "stale-if-error") state.fields;
   asked_if_error = seconds_said (codes "stale-if-error") claim.request.fields;
 }
+
+-- ---- whether a response states its lifetime so that it can be read
+
+-- what it says of its lifetime by a directive (RFC 9111 section 4.2.1)
+abbrev pub said_lifetime : List Field → Seconds
+said_lifetime fields = if says (codes "s-maxage") fields then seconds_said (codes "s-maxage") fields else seconds_said (codes "max-age") fields
+
+-- a directive says a number, or isn't there
+abbrev pub is_number : Seconds → Bool
+is_number Absent = true
+is_number Bare = false
+is_number (Value seconds) = true
+is_number Unreadable = false
+
+-- it doesn't state its lifetime by what should be a number, and is none
+abbrev pub is_read : List Field → Bool
+is_read fields = is_number (said_lifetime fields)
+
+-- it states a lifetime, in a way that can be read
+abbrev pub is_stated : List Field → Bool
+is_stated fields = explicit fields && is_read fields
+
+-- ---- whether a response might be given as stale as it is, did it not say no-cache
+
+-- a directive forbids to give it stale, but for no-cache
+abbrev pub is_forbidden : List Field → Bool
+is_forbidden fields = says (codes "must-revalidate") fields || says (codes "proxy-revalidate") fields || says (codes "s-maxage") fields
+
+-- the request permits that staleness, or the response while it is validated, or either on an error, where one came
+abbrev pub is_said : Claim → Stored → ℕ → Bool
+is_said claim state stale =
+    request_permits claim.settings.slack stale claim.request.fields
+    || meanwhile_permits claim.settings.slack stale state.fields
+    || ((claim.has_error || claim.has_failure) && permits claim.settings.slack stale (seconds_said (codes "stale-if-error") state.fields))
+    || ((claim.has_error || claim.has_failure) && permits claim.settings.slack stale (seconds_said (codes "stale-if-error") claim.request.fields))
+
+-- nothing else forbids it, and these permit it, or the origin can't be reached
+abbrev pub is_permitted : Claim → Stored → Bool
+is_permitted claim state = not (is_forbidden state.fields) && (is_said claim state (allowed_staleness claim state) || claim.has_failure)
 
 -- ---- by how many seconds a response may be stale at most
 

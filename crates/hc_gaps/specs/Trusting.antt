@@ -1,5 +1,6 @@
 -- Whether a response is fresh where its Age alone is believed (RFC 9111 section 4.2.3).
 use Rattle.std.specs.Prelude.{ℕ, Bool, ◌+◌, ◌-◌, ◌^◌, false, max, min, nat_le, nat_lt, Option, Some, None, unwrap_or, if◌then◌else◌}
+use Rattle.hc_fields.specs.Numbers.{largest_number}
 use Rattle.hc_fresh.specs.Ages.{apparent_age, corrected_age_value}
 use Rattle.hc_gaps.specs.declared.aging.AgeParts.{AgeParts}
 use Rattle.hc_gaps.specs.declared.usage.Usage.{Usage}
@@ -15,7 +16,7 @@ told_age parts = min (corrected_age_value parts.times) most
 -- the age at the reply by that, where the Date tells of more
 abbrev pub age_by_age_alone : AgeParts → Option ℕ
 age_by_age_alone parts =
-    if nat_le (apparent_age parts.times) (told_age parts) then None else Some (min (told_age parts + parts.resident) most)
+    if nat_le (apparent_age parts.times) (told_age parts) then None else Some (min (min (told_age parts + parts.resident) most) largest_number)
 
 -- the lifetime that is counted with
 abbrev pub lifetime_in : Usage → ℕ

@@ -9,7 +9,7 @@ use Rattle.hc_history.specs.Usable.{age_of, lifetime_of}
 use Rattle.hc_gaps.specs.declared.usage.Usage.{Usage}
 use Rattle.hc_gaps.specs.Aging.{parts_of}
 use Rattle.hc_gaps.specs.Forbidding.{forbids_stale, unusable_by}
-use Rattle.hc_gaps.specs.Stale.{stale_said_of, takes_lifetime, told_setting}
+use Rattle.hc_gaps.specs.Stale.{is_permitted, is_read, stale_said_of, takes_lifetime, told_setting}
 
 -- the lifetime that it states (RFC 9111 section 4.2.1)
 abbrev pub stated_lifetime : Stored → Option ℕ
@@ -26,12 +26,15 @@ stale_by lifetime age = if fresh lifetime age then None else Some (staleness lif
 abbrev pub usage_of : Claim → Stored → Usage
 usage_of claim state = record {
   lifetime = stated_lifetime state;
+  is_read = is_read state.fields;
+  may_be_guessed = takes_lifetime state;
   lent = lent_to claim state;
   age = age_of claim state;
   parts = parts_of claim state;
   stale_by = stale_by (allowed_lifetime claim state) (age_of claim state);
   forbidden = unusable_by state.fields;
   forbids_stale = forbids_stale state.fields;
+  is_permitted = is_permitted claim state;
   slack = claim.settings.slack;
   said = stale_said_of claim state;
   setting = told_setting claim state;

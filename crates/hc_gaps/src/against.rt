@@ -8,7 +8,7 @@ ghost use Rattle.hc_gaps.specs.Against.{against_of, telling_of};
 use crate::demand::Demand;
 use hc_fields::{Fields, trimmed};
 use hc_fresh::says;
-use hc_head::{RequestHead, ResponseHead, is_get};
+use hc_head::{RequestHead, ResponseHead, is_get, is_head};
 use hc_rules::{last_modified, selects, tag};
 use hc_shown::{FieldOf, Teller};
 use hc_update::{Stored, identifies};
@@ -140,8 +140,8 @@ pub fn agree(state: &Stored, forward: &RequestHead, response: &ResponseHead) -> 
 }
 
 impl Against {
-    /// Whether no RFC says so, but a stricter rule of this auditor's own: that a 304 which may not be stored itself, or tells a
-    /// weak tag, is about nothing that is stored.
+    /// Whether no RFC says so, but a stricter rule of this auditor's own: that a 304 which may not be stored itself, tells a weak
+    /// tag, or answers HEAD, is about nothing that is stored.
     pub fn is_stricter(
         &self,
         alloc: Global,
@@ -151,12 +151,21 @@ impl Against {
     ) -> Result<bool, AllocError> {
         match self {
             Against::Private | Against::NoStore | Against::Validators(_) => {}
+            Against::Method if is_head(&forward.method) && !says(b"no-store", &forward.fields) => {}
             _ => return Ok(false),
         }
         if !agree(state, forward, response) {
             return Ok(false);
         }
         selects(alloc, &state.fields, &state.request.fields, &forward.fields)
+    }
+
+    /// What is asked where no RFC says so.
+    pub fn stricter_demand(&self) -> Demand {
+        match self {
+            Against::Method => HEAD_304,
+            _ => STORABLE_304,
+        }
     }
 
     // A word for it, and words.
@@ -200,8 +209,14 @@ impl Against {
     }
 }
 
+/// A 304 to HEAD validates nothing.
+const HEAD_304: Demand = Demand {
+    sections: "no RFC (RFC 9111 section 4.3.4 lets a 304 to HEAD validate what is stored), but this auditor's stricter rule",
+    words: "a 304 validates what is stored where it answers GET",
+};
+
 /// What may not be stored itself validates nothing.
-pub const STORABLE_304: Demand = Demand {
+const STORABLE_304: Demand = Demand {
     sections: "no RFC (RFC 9111 section 4.3.4 lets a 304 validate a response that may not be stored itself, or that has a weak tag), but this auditor's stricter rule",
     words: "a 304 that says no-store or private, or that tells a weak tag of what has a strong one, validates nothing that is stored",
 };

@@ -4,12 +4,14 @@ ghost use Rattle.std.specs.Prelude.{◌≡◌, [], ◌∷◌, codes};
 ghost use Rattle.hc_fields.specs.Values.{values_of};
 ghost use Rattle.hc_fresh.specs.Ages.{apparent_age, response_delay};
 ghost use Rattle.hc_gaps.specs.Aging.{IsAgeGap, IsAgeTold, age_off, parts_of, ttl_due, ttl_gap_of, ttl_off};
-ghost use Rattle.hc_gaps.specs.Demanding.{age_sections, is_about};
+ghost use Rattle.hc_gaps.specs.Demanding.{age_sections, is_about, is_ttl_about, ttl_sections};
+ghost use Rattle.hc_gaps.specs.Stale.{is_stated};
 ghost use Rattle.hc_gaps.specs.Trusting.{age_by_age_alone};
 
 use crate::demand::Demand;
-use hc_fields::{Fields, number};
-use hc_fresh::Times;
+use crate::usage::is_read;
+use hc_fields::{Fields, LARGEST_NUMBER, number};
+use hc_fresh::{Times, explicit};
 use hc_head::StatusCode;
 use hc_history::{ReplyClaim, age_of, lifetime_of};
 use hc_shown::{FieldOf, RecordName, Teller};
@@ -57,6 +59,10 @@ pub struct TtlGap {
     pub lifetime: u32,
     /// Its age at the reply.
     pub age: u32,
+    /// What that is reckoned from.
+    pub parts: AgeParts,
+    /// Whether it states that lifetime, so that a cache has no other to give it.
+    pub is_stated: bool,
     /// By how many seconds they may be off.
     pub slack: u32,
 }
@@ -124,6 +130,13 @@ pub fn age_gap(claim: &ReplyClaim<'_>, state: &Stored) -> AgeGap
     }
 }
 
+// Whether the response states its lifetime, in a way that can be read.
+fn is_stated(state: &Stored) -> bool
+    ensures { result ≡ is_stated state.now.fields }
+{
+    explicit(&state.fields) && is_read(state)
+}
+
 /// The seconds for which the reply says to be fresh still, and those that are due.
 pub fn ttl_gap(claim: &ReplyClaim<'_>, state: &Stored) -> TtlGap
     ensures { result ≡ ttl_gap_of claim.now state.now }
@@ -132,15 +145,18 @@ pub fn ttl_gap(claim: &ReplyClaim<'_>, state: &Stored) -> TtlGap
         told: claim.ttl,
         lifetime: lifetime_of(state),
         age: age_of(claim, state),
+        parts: age_parts(claim, state),
+        is_stated: is_stated(state),
         slack: claim.settings.slack,
     }
 }
 
+/// Of what counts by Age alone.
+pub(crate) const AGE_ALONE: &str =
+    "no RFC (RFC 9111 section 4.2.3 lets a cache count by Age alone), but this auditor's stricter rule";
+
 /// What is asked of the seconds of a mark.
-pub const TTL: Demand = Demand {
-    sections: "RFC 9211 section 2.4",
-    words: "ttl tells for how many seconds more the response is fresh",
-};
+const TTL: &str = "ttl tells for how many seconds more the response is fresh";
 
 /// Tells by how many seconds something may be off, if it may be, and after them by which option.
 pub(crate) fn say_slack<T: Teller>(slack: u32, by_option: &str, teller: &mut T) {
@@ -176,14 +192,15 @@ impl AgeParts {
     }
 
     /// The age that is counted by the response's Age alone, where its Date tells of more.
-    pub(crate) fn by_age_alone(&self) -> Option<u64>
+    pub(crate) fn by_age_alone(&self) -> Option<u32>
         ensures { result ≡ age_by_age_alone self.now }
     {
         let corrected = u64::from(self.times.age_value).saturating_add(self.delay());
         if self.apparent() <= corrected {
             return None;
         }
-        Some(corrected.saturating_add(self.resident))
+        let age = corrected.saturating_add(self.resident);
+        Some(age.min(u64::from(LARGEST_NUMBER)) as u32)
     }
 
     /// Tells of what an age is the sum, after what stands for the age: the age that the response had when it came, by its Date or
@@ -232,18 +249,18 @@ impl AgeGap {
         ensures { result ≡ is_about (age_by_age_alone self.now.parts) told self.now.slack }
     {
         match self.parts.by_age_alone() {
-            Some(counted) => counted.abs_diff(u64::from(told)) <= u64::from(self.slack),
+            Some(counted) => counted.abs_diff(told) <= self.slack,
             None => false,
         }
     }
 
-    /// What is asked of the Age of a reply of that status, whose response a 304 has validated since that position or before it,
-    /// if one has.
-    pub fn demand(&self, since: u64, validated_at: Option<u64>, status: StatusCode) -> Demand
-        ensures { result.sections.now ≡ age_sections self.now since validated_at }
+    /// What is asked of the Age of a reply of that status, whose response a 304 has validated for the request itself, or at all, or
+    /// none has.
+    pub fn demand(&self, is_for_it: bool, was_validated: bool, status: StatusCode) -> Demand
+        ensures { result.sections.now ≡ age_sections self.now is_for_it was_validated }
     {
-        match (self.told, validated_at) {
-            (AgeTold::Missing, Some(validated)) if since < validated => Demand::of(
+        match (self.told, was_validated) {
+            (AgeTold::Missing, _) if is_for_it => Demand::of(
                 "no RFC (RFC 9111 section 4 asks for an Age where what is stored is used without validation), but this auditor's stricter rule",
                 "what comes from the store has an Age, also after a 304 to the request itself",
             ),
@@ -259,14 +276,14 @@ impl AgeGap {
                 Demand::of("RFC 9111 section 5.1", "Age is one number of seconds")
             }
             (AgeTold::Seconds(told), _) if self.is_by_age_alone(told) => Demand::of(
-                "no RFC (RFC 9111 section 4.2.3 lets a cache count by Age alone where it trusts that), but this auditor's stricter rule",
+                AGE_ALONE,
                 "Age is what the response's Age or its Date says, whichever is more, with the seconds since",
             ),
-            (AgeTold::Seconds(_), Some(_)) => Demand::of(
+            (AgeTold::Seconds(_), true) => Demand::of(
                 "RFC 9111 sections 4.2 and 5.1",
                 "a response's age, which Age tells, is the time since it was generated, or was validated last, at the origin",
             ),
-            (AgeTold::Seconds(_), None) => Demand::of(
+            (AgeTold::Seconds(_), false) => Demand::of(
                 "RFC 9111 sections 4 and 4.2.3",
                 "Age MUST be what the response's Age or Date says, with the seconds that it was on its way, and those since",
             ),
@@ -340,6 +357,35 @@ impl TtlGap {
     {
         let told = self.told?;
         Some((told.abs_diff(self.due()), told < self.due()))
+    }
+
+    // Whether those seconds are what is left where the response's Age alone is counted.
+    fn is_by_age_alone(&self, told: Option<i64>) -> bool
+        ensures { result ≡ is_ttl_about self.now (age_by_age_alone self.now.parts) told }
+    {
+        match (self.parts.by_age_alone(), told) {
+            (Some(age), Some(told)) => {
+                let left = i64::from(self.lifetime) - i64::from(age);
+                told.abs_diff(left) <= u64::from(self.slack)
+            }
+            _ => false,
+        }
+    }
+
+    /// What is asked of them.
+    pub fn demand(&self) -> Demand
+        ensures { result.sections.now ≡ ttl_sections self.now }
+    {
+        if !self.is_stated {
+            return Demand::of(
+                "no RFC (RFC 9211 section 2.4 counts a lifetime that the cache itself gives), but this auditor's stricter rule",
+                TTL,
+            );
+        }
+        if self.is_by_age_alone(self.told) {
+            return Demand::of(AGE_ALONE, TTL);
+        }
+        Demand::of("RFC 9211 section 2.4", TTL)
     }
 
     /// Tells the seconds for which the reply is due to say that it is fresh still, and those that it says.

@@ -1,11 +1,15 @@
 //! In what the status or the body of a reply differs from a stored response's.
 
 ghost use Rattle.std.specs.Prelude.{◌≡◌, codes};
-ghost use Rattle.hc_gaps.specs.Demanding.{content_sections, failing_sections, found_sections, gap_sections};
+ghost use Rattle.hc_rules.specs.Conditions.{only_date};
+ghost use Rattle.hc_gaps.specs.Demanding.{content_sections, failing_sections, found_sections, gap_sections, is_by_date, is_of_success, is_transformed, unearned_sections};
 
 use crate::demand::Demand;
+use hc_fields::Fields;
+use hc_fresh::{read_date, says};
 use hc_head::{Method, StatusCode, is_head};
 use hc_history::ReplyClaim;
+use hc_rules::client_condition;
 use hc_shown::{FieldOf, Teller};
 use hc_update::Stored;
 
@@ -42,6 +46,10 @@ const MODIFIED_SINCE: Condition = ("if-modified-since", "last-modified");
 enum Content {
     // A 304 where the response has another status than 200.
     OfNoSuccess,
+    // The same where that is a success, too, and the condition holds.
+    OfSuccess,
+    // A 304 by If-Modified-Since, which holds where the Date stands for the Last-Modified that the response lacks.
+    ByDate,
     // A 304 that no condition earns: this one of the request, if it has one.
     Unearned(Option<Condition>),
     // A 416, and a part, in an audit that allows ranges.
@@ -51,6 +59,8 @@ enum Content {
     Evaluated(Condition),
     // A 412 by another one, if by one.
     Failed(Option<Condition>),
+    // A 203, by which a proxy says that it transforms a body.
+    Transformed,
     Other,
 }
 
@@ -119,19 +129,65 @@ fn failed(claim: &ReplyClaim<'_>) -> Content
     Content::Failed(first_asked(&[NONE_MATCH], claim))
 }
 
+// The date of If-Modified-Since.
+fn since(asked: &Fields) -> Option<u64>
+    ensures { result ≡ only_date (codes "if-modified-since") asked.now }
+{
+    read_date(asked.only(b"if-modified-since")?)
+}
+
+// Whether the condition of the request is If-Modified-Since, which holds by the Date of the response, since it has no
+// Last-Modified.
+fn is_by_date(claim: &ReplyClaim<'_>, state: &Stored) -> bool
+    ensures { result ≡ is_by_date claim.now state.now }
+{
+    let asked = &claim.request.fields;
+    if asked.contains(b"if-none-match") || state.fields.contains(b"last-modified") {
+        return false;
+    }
+    match since(asked) {
+        Some(since) => state.times.date <= since,
+        None => false,
+    }
+}
+
+// Whether the response is a success of another status than 200, for which the condition of the request holds.
+fn is_of_success(claim: &ReplyClaim<'_>, state: &Stored) -> bool
+    ensures { result ≡ is_of_success claim.now state.now }
+{
+    let asked = &claim.request.fields;
+    state.status.as_u16() < 300 && client_condition(asked, StatusCode::OK, &state.fields)
+}
+
 // What a 304 is that no condition earns.
 fn unearned(claim: &ReplyClaim<'_>, state: &Stored) -> Content
-    ensures { found_sections result ≡ codes "RFC 9111 section 4.3.2" }
+    ensures { found_sections result ≡ unearned_sections claim.now state.now }
 {
     if state.status != StatusCode::OK {
+        if is_of_success(claim, state) {
+            return Content::OfSuccess;
+        }
         return Content::OfNoSuccess;
+    }
+    if is_by_date(claim, state) {
+        return Content::ByDate;
     }
     Content::Unearned(first_asked(&[NONE_MATCH, MODIFIED_SINCE], claim))
 }
 
+// Whether the reply says by its status that a proxy transforms the body of the response, which doesn't forbid that.
+fn is_transformed(claim: &ReplyClaim<'_>, state: &Stored) -> bool
+    ensures { result ≡ is_transformed claim.now state.now }
+{
+    let status = claim.reply.head.status;
+    status == StatusCode::NON_AUTHORITATIVE_INFORMATION
+        && state.status == StatusCode::OK
+        && !says(b"no-transform", &state.fields)
+}
+
 // What a reply is that has another status or another body than the response.
 fn content_of(claim: &ReplyClaim<'_>, state: &Stored) -> Content
-    ensures { found_sections result ≡ content_sections claim.now }
+    ensures { found_sections result ≡ content_sections claim.now state.now }
 {
     let status = claim.reply.head.status;
     if status == StatusCode::NOT_MODIFIED && claim.reply.body.is_empty() {
@@ -146,12 +202,15 @@ fn content_of(claim: &ReplyClaim<'_>, state: &Stored) -> Content
     if status == StatusCode::PRECONDITION_FAILED {
         return failed(claim);
     }
+    if is_transformed(claim, state) {
+        return Content::Transformed;
+    }
     Content::Other
 }
 
 /// In what the status or the body of the reply differs from the response's.
 pub fn content_gap(claim: &ReplyClaim<'_>, state: &Stored) -> ContentGap
-    ensures { gap_sections result ≡ content_sections claim.now }
+    ensures { gap_sections result ≡ content_sections claim.now state.now }
 {
     let body = claim.reply.body.as_slice();
     ContentGap {
@@ -227,7 +286,10 @@ fn tell_range<T: Teller>(before: &str, (claim, state): Pair<'_>, teller: &mut T)
 impl ContentGap {
     // Whether it is a 304 that nothing earns.
     fn is_unearned(&self) -> bool {
-        matches!(self.content, Content::OfNoSuccess | Content::Unearned(_))
+        matches!(
+            self.content,
+            Content::OfNoSuccess | Content::OfSuccess | Content::ByDate | Content::Unearned(_)
+        )
     }
 
     // Whether it is the body alone that differs.
@@ -261,6 +323,18 @@ impl ContentGap {
             Content::OfNoSuccess | Content::Unearned(_) => {
                 Demand::of("RFC 9111 section 4.3.2", WHOLE)
             }
+            Content::OfSuccess => Demand::of(
+                "no RFC (RFC 9110 section 13.2.1 lets a condition be asked of whatever is 2xx), but this auditor's stricter rule",
+                "a condition of a client is asked of a stored response of status 200 alone",
+            ),
+            Content::ByDate => Demand::of(
+                "no RFC (RFC 9111 section 4.3.2 lets a Date stand for the Last-Modified that isn't there), but this auditor's stricter rule",
+                "no Date stands for a Last-Modified that isn't there",
+            ),
+            Content::Transformed => Demand::of(
+                "no RFC (RFC 9110 section 7.7 lets a proxy transform a body, and section 15.3.4 say so), but this auditor's stricter rule",
+                WHOLE,
+            ),
             Content::Unsatisfied => Demand::of(
                 "RFC 9110 section 15.5.17",
                 "a 416 SHOULD tell by Content-Range how long the whole is",
@@ -315,6 +389,7 @@ impl ContentGap {
         teller.words("no condition earns the 304: ");
         match self.content {
             Content::Unearned(Some(condition)) => tell_condition(condition, ITS, pair, teller),
+            Content::ByDate => tell_condition(MODIFIED_SINCE, ITS, pair, teller),
             Content::Unearned(None) => teller.words("the request has none"),
             _ => teller.number("due_status", "its status is ", number(self.due), ""),
         }

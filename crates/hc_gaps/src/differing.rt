@@ -2,14 +2,14 @@
 
 ghost use Rattle.std.specs.Prelude.{◌≡◌, ◌++◌, List, ℕ, [], ◌∷◌, true, filter, map, IfOk, OnOk};
 ghost use Rattle.hc_history.specs.Filters.{compared_names, names_of};
-ghost use Rattle.std.specs.List.{list_all, list_any};
-ghost use Rattle.hc_gaps.specs.Demanding.{change_sections, difference_sections, first_in, has_become, has_content, has_date, has_lost, has_renewed, is_undated, may_be_form, renewed_in, renews};
+ghost use Rattle.hc_gaps.specs.Demanding.{change_sections, difference_sections, first_in, free_sections, frees_date, has_become, has_bound, has_bound_date, has_bound_repeated, has_freedom, has_listed, has_renewed, has_unlisted, is_bound, is_repeated, is_undated, renewed_in, renews};
 ghost use Rattle.hc_gaps.specs.Differing.{AreDifferences, AreListed, IsGap, change_of, differs, with_name, with_names};
 
 use crate::demand::Demand;
-use crate::forms::means_the_same;
+use crate::forms::{means_the_same, need_not_be_stored};
 use crate::newest::NAMED;
 use hc_fields::{Field, Fields, Octets, is_among};
+use hc_fresh::date_stated;
 use hc_head::StatusCode;
 use hc_history::{ReplyClaim, differs, is_of_content};
 use hc_rules::REPEATED_NAMES;
@@ -40,6 +40,19 @@ pub enum Change {
     Changed,
 }
 
+/// What the RFCs permit by which a field differs.
+#[derive(Clone, Copy, PartialEq, Eq)]
+pub enum Freedom {
+    /// Nothing.
+    Nothing,
+    /// Both mean the same by it, though it is written in other ways (RFC 9110 sections 5.3 and 5.6.1).
+    Form,
+    /// It was dropped, and the response says `no-cache` or `private` of it (RFC 9111 section 3.1).
+    Named,
+    /// It was added, and tells of no representation (RFC 9110 section 7.7).
+    Addition,
+}
+
 /// A field of which a reply has other values than a stored response.
 #[derive(Drop)]
 pub struct FieldGap {
@@ -47,8 +60,8 @@ pub struct FieldGap {
     pub name: Octets,
     /// What became of it.
     pub change: Change,
-    /// Whether both mean the same by it, though it is written in other ways.
-    pub is_form: bool,
+    /// What permits that.
+    pub freedom: Freedom,
 }
 
 /// The fields of which a reply has other values than a stored response, each once, in the order of the reply and
@@ -58,11 +71,17 @@ pub struct Differences {
     pub listed: Vec<FieldGap>,
     /// How many more there are.
     pub more: u64,
+    // The gravest that became of one of those which nothing permits.
+    unlisted: Option<Change>,
 }
 
 impl Drop for Differences {
     fn drop(self) {
-        let Differences { listed, more: _ } = self;
+        let Differences {
+            listed,
+            more: _,
+            unlisted: _,
+        } = self;
         drop(listed);
     }
 }
@@ -122,6 +141,41 @@ fn change_of(claim: &ReplyClaim<'_>, state: &Stored, name: &[u8]) -> Change
     }
 }
 
+// What permits that a field differs of which that became.
+fn freedom_of(
+    alloc: Global,
+    claim: &ReplyClaim<'_>,
+    state: &Stored,
+    name: &[u8],
+    change: Change,
+) -> Result<Freedom, AllocError> {
+    match change {
+        Change::Added if !is_of_content(name) => Ok(Freedom::Addition),
+        Change::Dropped if need_not_be_stored(name, &state.fields) => Ok(Freedom::Named),
+        // What is no list means something by each octet, and each line of Set-Cookie something by itself.
+        Change::Changed if !is_among(&SINGLE, name) => {
+            let both = (&claim.reply.head.fields, &state.fields);
+            if means_the_same(alloc, name, both, false)? {
+                Ok(Freedom::Form)
+            } else {
+                Ok(Freedom::Nothing)
+            }
+        }
+        _ => Ok(Freedom::Nothing),
+    }
+}
+
+// The gravest of what became of fields that aren't listed, and of another one, if nothing permits that: that one was dropped,
+// or else changed.
+fn gravest(before: Option<Change>, change: Change, freedom: Freedom) -> Option<Change> {
+    match (before, change) {
+        _ if freedom != Freedom::Nothing => before,
+        (Some(Change::Dropped), _) => before,
+        (Some(Change::Changed), Change::Added) => before,
+        _ => Some(change),
+    }
+}
+
 impl Differences {
     // Takes in the field of that name: one that differs is listed, or counted where there is no room.
     fn take(
@@ -137,17 +191,17 @@ impl Differences {
         if !differs(alloc, claim, state, name)? {
             return Ok(());
         }
+        let change = change_of(claim, state, name);
+        let freedom = freedom_of(alloc, claim, state, name, change)?;
         if MOST_LISTED <= self.listed.len() {
             self.more = self.more.saturating_add(1);
+            self.unlisted = gravest(self.unlisted, change, freedom);
             return Ok(());
         }
-        // What is no list means something by each octet, and each line of Set-Cookie something by itself.
-        let both = (&claim.reply.head.fields, &state.fields);
-        let is_form = !is_among(&SINGLE, name) && means_the_same(alloc, name, both, false)?;
         self.listed.push(FieldGap {
             name: Octets::from_slice(alloc, name)?,
-            change: change_of(claim, state, name),
-            is_form,
+            change,
+            freedom,
         })?;
         Ok(())
     }
@@ -168,6 +222,7 @@ pub fn compare(
     let mut found = Differences {
         listed: Vec::new(alloc),
         more: 0,
+        unlisted: None,
     };
     for name in names.as_slice() {
         found.take(alloc, claim, state, name)?;
@@ -176,17 +231,13 @@ pub fn compare(
 }
 
 impl FieldGap {
-    // Whether both mean the same by it, or it was added and tells of no representation.
-    fn may_be_form(&self) -> bool
-        ensures { result ≡ may_be_form self.now }
+    // Whether nothing permits it: the Date may be another one where that is the cache's to choose.
+    fn is_bound(&self, is_date_free: bool) -> bool
+        ensures { result ≡ is_bound is_date_free self.now }
     {
-        if self.is_form {
-            return true;
-        }
-        match self.change {
-            Change::Added => !is_of_content(self.name.as_slice()),
-            Change::Dropped | Change::Changed => false,
-        }
+        let is_date = self.name.as_slice() == b"date".as_slice();
+        let is_free = is_date_free && is_date && self.change == Change::Changed;
+        self.freedom == Freedom::Nothing && !is_free
     }
 }
 
@@ -218,6 +269,18 @@ impl FieldsOrigin<'_> {
         ensures { result ≡ renews (renewed_in self.now) name.now }
     {
         matches!(self.validator, Some((_, renewed)) if renewed.contains(name))
+    }
+
+    // Whether the Date is the cache's to choose: where what told it last, a 304 or the response, has no one Date that can be read,
+    // and is no response without any.
+    fn frees_date(&self) -> bool
+        ensures { result ≡ frees_date (renewed_in self.now) (first_in self.now) }
+    {
+        match (self.validator, self.first) {
+            (Some((_, renewed)), _) => date_stated(renewed).is_none(),
+            (None, Some(first)) => first.contains(b"date") && date_stated(first).is_none(),
+            (None, None) => false,
+        }
     }
 
     // Whether the response is known to have come without a Date.
@@ -267,6 +330,35 @@ impl FieldGap {
     }
 }
 
+// Whether a 304 repeats the field of that name.
+fn is_repeated(name: &[u8]) -> bool
+    ensures { result ≡ is_repeated name.now }
+{
+    is_among(&REPEATED_NAMES, name)
+}
+
+// What is asked by what became of the fields: of those that were added, each tells of the representation.
+fn demand_of_change(is_dropped: bool, is_changed: bool) -> Demand
+    ensures { result.sections.now ≡ change_sections is_dropped }
+{
+    if is_dropped {
+        Demand::of(
+            "RFC 9111 section 3.1",
+            "a cache MUST store all fields of a response but those of the connection, and what a hit lacks of them counts as not stored",
+        )
+    } else if is_changed {
+        Demand::of(
+            "RFC 9110 section 7.7",
+            "a proxy SHOULD NOT modify the fields that tell of the resource or of its representation",
+        )
+    } else {
+        Demand::of(
+            "RFC 9110 section 7.7",
+            "a proxy SHOULD NOT modify what tells of a representation, and to add such a field, as a Content-Type, is that, too",
+        )
+    }
+}
+
 impl Differences {
     /// Whether one of those that are listed became so.
     pub fn has(&self, change: Change) -> bool
@@ -280,103 +372,114 @@ impl Differences {
         self.listed.is_empty()
     }
 
-    // Whether one of them tells of the representation.
-    fn has_content(&self) -> bool
-        ensures { result ≡ has_content self.now }
+    // Whether one became so that nothing permits, be it listed or not.
+    fn has_bound(&self, change: Change, is_date_free: bool) -> bool
+        ensures { result ≡ has_bound is_date_free change self.now }
+    {
+        self.has_unlisted(change) || self.has_listed(change, is_date_free)
+    }
+
+    // Whether one of those that are listed became so that nothing permits.
+    fn has_listed(&self, change: Change, is_date_free: bool) -> bool
+        ensures { result ≡ has_listed is_date_free change self.now }
     {
         self.listed
             .iter()
-            .any(|gap| is_of_content(gap.name.as_slice()))
+            .any(|gap| gap.change == change && gap.is_bound(is_date_free))
     }
 
-    // Whether one of them is the Date.
-    fn has_date(&self) -> bool
-        ensures { result ≡ has_date self.now }
+    // Whether that is the gravest that became of those that aren't listed.
+    fn has_unlisted(&self, change: Change) -> bool
+        ensures { result ≡ has_unlisted change self.now.unlisted }
     {
-        self.listed
-            .iter()
-            .any(|gap| gap.name.as_slice() == b"date".as_slice())
+        match self.unlisted {
+            Some(gravest) => gravest == change,
+            None => false,
+        }
     }
 
-    // Whether both mean the same by one of them.
-    fn has_form(&self) -> bool
-        ensures { result ≡ list_any (λ gap. gap.is_form) self.now.listed.items }
+    // Whether one of those that are listed, which nothing permits, is the Date.
+    fn has_bound_date(&self, is_date_free: bool) -> bool
+        ensures { result ≡ has_bound_date is_date_free self.now }
     {
-        self.listed.iter().any(|gap| gap.is_form)
+        self.listed.iter().any(|gap| gap.name.as_slice() == b"date".as_slice()
+            && gap.is_bound(is_date_free))
     }
 
-    // Whether both mean the same by all of them that weren't added, and those that were tell of no representation.
-    fn may_be_forms(&self) -> bool
-        ensures { result ≡ list_all (λ gap. may_be_form gap) self.now.listed.items }
+    // Whether one of those that are listed, which nothing permits, is one that a 304 repeats.
+    fn has_bound_repeated(&self, is_date_free: bool) -> bool
+        ensures { result ≡ has_bound_repeated is_date_free self.now }
     {
-        self.listed.iter().all(|gap| gap.may_be_form())
+        self.listed.iter().any(|gap| is_repeated(gap.name.as_slice()) && gap.is_bound(is_date_free))
     }
 
-    // Whether the 304 that freshened the response last has one of them.
-    fn has_renewed(&self, origin: &FieldsOrigin<'_>) -> bool
-        ensures { result ≡ has_renewed self.now (renewed_in origin.now) }
+    // Whether that permits one of those that are listed.
+    fn has_freedom(&self, freedom: Freedom) -> bool
+        ensures { result ≡ has_freedom freedom self.now }
     {
-        self.listed
-            .iter()
-            .any(|gap| origin.has_renewed(gap.name.as_slice()))
+        self.listed.iter().any(|gap| gap.freedom == freedom)
     }
 
-    // Whether one is dropped or changed, or may be, since not all are listed.
-    fn has_lost(&self) -> bool
-        ensures { result ≡ has_lost self.now }
+    // Whether the 304 that freshened the response last has one of those that nothing permits.
+    fn has_renewed(&self, origin: &FieldsOrigin<'_>, is_date_free: bool) -> bool
+        ensures { result ≡ has_renewed is_date_free (renewed_in origin.now) self.now }
     {
-        self.more != 0 || self.has(Change::Dropped) || self.has(Change::Changed)
+        self.listed.iter().any(|gap| origin.has_renewed(gap.name.as_slice())
+            && gap.is_bound(is_date_free))
     }
 
     /// What is asked of the fields of a reply of that status, where those of the response come from that.
     pub fn demand(&self, status: StatusCode, origin: FieldsOrigin<'_>) -> Demand
         ensures { result.sections.now ≡ difference_sections self.now status (renewed_in origin.entry) (first_in origin.entry) }
     {
-        if origin.is_undated() && self.has_date() && !origin.has_renewed(b"date") {
+        let free = origin.frees_date();
+        let is_dropped = self.has_bound(Change::Dropped, free);
+        let is_changed = self.has_bound(Change::Changed, free);
+        let is_added = self.has_bound(Change::Added, free);
+        if !is_dropped && !is_changed && !is_added {
+            return self.free_demand();
+        }
+        let is_undated = origin.is_undated() && !origin.has_renewed(b"date");
+        if is_undated && self.has_bound_date(free) {
             return Demand::of(
                 "RFC 9110 section 6.6.1",
                 "what comes without a Date MUST get one: the moment at which it came",
             );
         }
-        if self.more == 0 && self.has_form() && self.may_be_forms() {
-            return Demand::of(
-                "no RFC (RFC 9110 sections 5.3 and 5.6.1 let lines be joined, and space in lists means nothing), but this auditor's stricter rule",
-                "a reply has the stored response's fields as they are written, line by line",
-            );
-        }
-        if status == StatusCode::NOT_MODIFIED && (self.has_lost() || self.has_content()) {
+        let has_repeated = is_dropped || is_added || self.has_bound_repeated(free);
+        if status == StatusCode::NOT_MODIFIED && has_repeated {
             return Demand::of(
                 "RFC 9110 section 15.4.5",
                 "a 304 MUST have the stored response's Cache-Control, Content-Location, Date, ETag, Expires and Vary",
             );
         }
-        if self.has_renewed(&origin) {
+        if self.has_renewed(&origin, free) {
             return Demand::of(
                 "RFC 9111 section 4.3.4",
                 "the fields of a 304 MUST replace those of the stored response that it is about",
             );
         }
-        self.demand_of_change()
+        demand_of_change(is_dropped, is_changed)
     }
 
-    // What is asked by what became of the fields.
-    fn demand_of_change(&self) -> Demand
-        ensures { result.sections.now ≡ change_sections self.now }
+    // What is asked where the RFCs permit each of them.
+    fn free_demand(&self) -> Demand
+        ensures { result.sections.now ≡ free_sections self.now }
     {
-        if self.has(Change::Dropped) {
+        if self.has_freedom(Freedom::Form) {
             Demand::of(
-                "RFC 9111 section 3.1",
-                "a cache MUST store all fields of a response but those of the connection, and what a hit lacks of them counts as not stored",
+                "no RFC (RFC 9110 sections 5.3 and 5.6.1 let lines be joined, and space in lists means nothing), but this auditor's stricter rule",
+                "a reply has the stored response's fields as they are written, line by line",
             )
-        } else if self.has(Change::Changed) {
+        } else if self.has_freedom(Freedom::Named) {
             Demand::of(
-                "RFC 9110 section 7.7",
-                "a proxy SHOULD NOT modify the fields that tell of the resource or of its representation",
+                "no RFC (RFC 9111 section 3.1 lets what no-cache or private names be left out), but this auditor's stricter rule",
+                "a reply has the stored response's fields, those that no-cache names, too",
             )
-        } else if self.has_content() {
+        } else if self.has_bound(Change::Changed, false) {
             Demand::of(
-                "RFC 9110 section 7.7",
-                "a proxy SHOULD NOT modify what tells of a representation, and to add such a field, as a Content-Type, is that, too",
+                "no RFC (RFC 9110 section 6.6.1 leaves to a cache what it makes of a Date that isn't there or can't be read), but this auditor's stricter rule",
+                "where a Date isn't there, or can't be read, the moment at which the message came is the Date",
             )
         } else {
             Demand::of(

@@ -124,13 +124,17 @@ fn has_any_case(name: &[u8], fields: &Fields) -> bool {
     false
 }
 
-// Whether one of the fields that an argument names, between quotes or not, is among both.
-fn has_named(argument: &[u8], one: &Fields, other: &Fields) -> bool {
-    let names = match argument {
+// An argument without the quotes about it.
+fn unquoted(argument: &[u8]) -> &[u8] {
+    match argument {
         [b'"', inner @ .., b'"'] => inner,
         _ => argument,
-    };
-    for name in list_members(names) {
+    }
+}
+
+// Whether one of the fields that an argument names is among both.
+fn has_named(argument: &[u8], one: &Fields, other: &Fields) -> bool {
+    for name in list_members(unquoted(argument)) {
         if has_any_case(name, one) && has_any_case(name, other) {
             return true;
         }
@@ -146,6 +150,30 @@ fn after_directive<'a>(member: &'a [u8], directive: &[u8]) -> Option<&'a [u8]> {
     } else {
         None
     }
+}
+
+// Whether a member is that directive, said of the field of that name in lower case.
+fn is_said_of(name: &[u8], directive: &[u8], member: &[u8]) -> bool {
+    let Some([b'=', argument @ ..]) = after_directive(member, directive) else {
+        return false;
+    };
+    for named in list_members(unquoted(argument)) {
+        if named.eq_ignore_ascii_case(name) {
+            return true;
+        }
+    }
+    false
+}
+
+/// Whether those of a response say `no-cache` or `private` of the field of that name in lower case, so that a cache need not store
+/// it (RFC 9111 section 3.1).
+pub fn need_not_be_stored(name: &[u8], response: &Fields) -> bool {
+    for member in response.members(b"cache-control") {
+        if is_said_of(name, b"no-cache", member) || is_said_of(name, b"private", member) {
+            return true;
+        }
+    }
+    false
 }
 
 /// Whether those of a response say that directive of some fields alone, of which the reply to which these belong has none that

@@ -17,11 +17,11 @@ mod stale;
 mod storing;
 mod usage;
 
-pub use against::{Against, STORABLE_304, agree, first_against};
-pub use aging::{AgeGap, AgeOrigin, Aged, TTL, TtlGap, age_gap, ttl_gap};
+pub use against::{Against, agree, first_against};
+pub use aging::{AgeGap, AgeOrigin, Aged, TtlGap, age_gap, ttl_gap};
 pub use contents::{BodyGap, ContentGap, PERMITTED_PART, body_gap, content_gap, has_body};
-pub use demand::{Demand, NO_HIT, STORED_ANSWER};
-pub use differing::{Change, Differences, FieldGap, FieldsOrigin, compare};
+pub use demand::{Demand, NO_HIT, STORED_ANSWER, UNRECORDED};
+pub use differing::{Change, Differences, FieldGap, FieldsOrigin, Freedom, compare};
 pub use forms::leaves_out;
 pub use laws::{least_setting_permits, named_permit_permits, no_setting_permits};
 pub use newest::{NAMED, Newest};

@@ -2,11 +2,12 @@
 
 ghost use Rattle.std.specs.Prelude.{◌≡◌};
 ghost use Rattle.hc_gaps.specs.Permits.{permit_by, permit_of, stale_use_of};
+ghost use Rattle.hc_gaps.specs.Stale.{is_forbidden, is_permitted};
 
 use crate::aging::AgeOrigin;
 use crate::stale::number_in;
 use crate::usage::{Usage, usage_at};
-use hc_fresh::fresh;
+use hc_fresh::{fresh, says};
 use hc_history::{
     ReplyClaim, age_of, allowed_staleness, is_allowed_fresh, is_fresh_within, lifetime_of,
     meanwhile_permits, request_permits, said_on_error, use_is_allowed, validated_since,
@@ -57,6 +58,28 @@ fn permit_by(claim: &ReplyClaim<'_>, state: &Stored, stale: u32) -> Permit
             None => Permit::Unreachable,
         }
     }
+}
+
+// Whether a directive forbids to give the response stale, but for `no-cache`.
+fn is_forbidden(state: &Stored) -> bool
+    ensures { result ≡ is_forbidden state.now.fields }
+{
+    says(b"must-revalidate", &state.fields)
+        || says(b"proxy-revalidate", &state.fields)
+        || says(b"s-maxage", &state.fields)
+}
+
+/// Whether the response might be given as stale as it is, did it not say `no-cache`.
+pub(crate) fn is_permitted(claim: &ReplyClaim<'_>, state: &Stored) -> bool
+    ensures { result ≡ is_permitted claim.now state.now }
+{
+    let stale = allowed_staleness(claim, state);
+    let is_broken = claim.has_error || claim.has_failure;
+    let is_said = request_permits(claim, stale)
+        || meanwhile_permits(claim, state, stale)
+        || (is_broken && said_on_error(claim, &state.fields, stale))
+        || (is_broken && said_on_error(claim, &claim.request.fields, stale));
+    !is_forbidden(state) && (is_said || claim.has_failure)
 }
 
 // The first thing that permits to give a response which is stale and may be used.

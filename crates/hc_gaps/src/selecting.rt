@@ -1,7 +1,7 @@
 //! In what a request differs from the one that a stored response answers (RFC 9111 section 4.1).
 
 ghost use Rattle.std.specs.Prelude.{◌≡◌, ◌++◌, List, ℕ, [], ◌∷◌, filter, IfOk, OnOk};
-ghost use Rattle.hc_gaps.specs.Demanding.{are_forms, has_star, selecting_sections};
+ghost use Rattle.hc_gaps.specs.Demanding.{has_named_other, has_other, has_star, names_all, selecting_sections};
 ghost use Rattle.hc_gaps.specs.Selecting.{AreNamed, AreUnmet, is_unmet};
 
 use crate::demand::Demand;
@@ -23,6 +23,10 @@ pub struct UnmetMember {
     /// Whether both requests mean the same by the field, though it is written in other ways.
     pub is_form: bool,
 }
+
+/// Of what a 304 validates that Vary doesn't select.
+const OPEN: &str =
+    "no RFC (RFC 9111 sections 4.1 and 4.3 leave this open), but this auditor's stricter rule";
 
 /// By which members of its Vary a response doesn't answer a request.
 pub struct Selection {
@@ -72,40 +76,66 @@ pub fn unmet_members(
 }
 
 impl Selection {
-    // Whether Vary names what selects no request.
+    // Whether Vary has `*`.
     fn has_star(&self) -> bool
         ensures { result ≡ has_star self.now }
     {
-        self.unmet.iter().any(|unmet| !unmet.is_name)
+        self.unmet
+            .iter()
+            .any(|unmet| unmet.member.as_slice() == b"*".as_slice())
     }
 
-    // Whether both requests mean the same by all that is named.
-    fn are_forms(&self) -> bool
-        ensures { result ≡ are_forms self.now }
+    // Whether the requests differ by what they mean in a field that Vary names, or may, since not all members are named here.
+    fn has_other(&self) -> bool
+        ensures { result ≡ has_other self.now }
     {
-        self.unmet.iter().all(|unmet| unmet.is_form)
+        self.more != 0 || self.has_named_other()
     }
 
-    /// What is asked of the reply: where Vary is `*`, by whether a 304 came.
+    // Whether they differ so in a field that one of the members names which are told.
+    fn has_named_other(&self) -> bool
+        ensures { result ≡ has_named_other self.now }
+    {
+        self.unmet
+            .iter()
+            .any(|unmet| unmet.is_name && !unmet.is_form)
+    }
+
+    // Whether each of the members is the name of a field.
+    fn names_all(&self) -> bool
+        ensures { result ≡ names_all self.now }
+    {
+        self.unmet.iter().all(|unmet| unmet.is_name)
+    }
+
+    /// What is asked of the reply, after a 304 that Vary alone kept from validating the response, or none.
     pub fn demand(&self, is_after_304: bool) -> Demand
         ensures { result.sections.now ≡ selecting_sections self.now is_after_304 }
     {
-        match (self.has_star(), is_after_304) {
-            (true, true) => Demand::of(
-                "no RFC (RFC 9111 sections 4.1 and 4.3 leave this open), but this auditor's stricter rule",
+        match (self.has_star(), self.has_other()) {
+            (true, _) if is_after_304 => Demand::of(
+                OPEN,
                 "Vary \"*\" selects no request, also none that a 304 answers",
             ),
-            (true, false) => Demand::of(
+            (true, _) => Demand::of(
                 "RFC 9111 section 4.1",
                 "Vary \"*\" selects no request: what has it MUST NOT be used before it is validated",
             ),
-            (false, _) if self.more == 0 && self.are_forms() => Demand::of(
+            (false, true) if is_after_304 => Demand::of(
+                OPEN,
+                "a stored response answers no request that its Vary doesn't select, also none that a 304 answers",
+            ),
+            (false, true) => Demand::of(
+                "RFC 9111 section 4.1",
+                "a stored response MUST NOT answer a request that differs from its own in what its Vary names",
+            ),
+            (false, false) if self.names_all() => Demand::of(
                 "no RFC (RFC 9111 section 4.1 lets a cache normalize space, case and order where they mean nothing in a field), but this auditor's stricter rule",
                 "a stored response answers no request that differs from its own in what its Vary names, but for --normalized",
             ),
-            (false, _) => Demand::of(
-                "RFC 9111 section 4.1",
-                "a stored response MUST NOT answer a request that differs from its own in what its Vary names",
+            (false, false) => Demand::of(
+                "no RFC (RFC 9111 section 4.1 says nothing of a member of Vary that is no name), but this auditor's stricter rule",
+                "a Vary with a member that is neither \"*\" nor the name of a field selects no request",
             ),
         }
     }

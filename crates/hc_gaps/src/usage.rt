@@ -5,13 +5,15 @@ ghost use Rattle.hc_history.specs.Allowing.{allowed_lifetime};
 ghost use Rattle.hc_gaps.specs.Trusting.{is_fresh_at, is_fresh_by_age_alone};
 ghost use Rattle.hc_gaps.specs.Demanding.{lifetime_sections, stale_sections, use_sections};
 ghost use Rattle.hc_gaps.specs.Forbidding.{forbids_stale, unusable_by};
+ghost use Rattle.hc_gaps.specs.Stale.{is_number, is_read, said_lifetime};
 ghost use Rattle.hc_gaps.specs.Using.{lent_to, stale_by, usage_of};
 
-use crate::aging::{AgeOrigin, AgeParts, age_parts, say_slack};
+use crate::aging::{AGE_ALONE, AgeOrigin, AgeParts, age_parts, say_slack};
 use crate::demand::Demand;
+use crate::permits::is_permitted;
 use crate::stale::{Setting, StaleSaid, stale_said, takes_lifetime, told_setting};
-use hc_directives::Directives;
-use hc_fresh::{explicit, fresh, says, staleness};
+use hc_directives::{Directives, Seconds};
+use hc_fresh::{explicit, fresh, says, seconds_said, staleness};
 use hc_history::{ReplyClaim, age_of, lifetime_of};
 use hc_shown::Teller;
 use hc_update::Stored;
@@ -36,6 +38,10 @@ pub enum Unusable {
 pub struct Usage {
     /// The lifetime that it states, if it states one.
     pub lifetime: Option<u32>,
+    /// Whether that isn't by what should be a number, and is none.
+    pub is_read: bool,
+    /// Whether a cache may guess one.
+    pub may_be_guessed: bool,
     /// The lifetime that the audit gives it by default, where that is more.
     pub lent: Option<u32>,
     /// Its age at the reply.
@@ -48,6 +54,8 @@ pub struct Usage {
     pub forbidden: Unusable,
     /// What forbids to give it stale, whether or not it says `no-cache`.
     pub forbids_stale: Unusable,
+    /// Whether it might be given as stale as it is, did it not say `no-cache`.
+    pub is_permitted: bool,
     /// By how many seconds these may be off.
     pub slack: u32,
     /// What is said of how stale it may be served.
@@ -82,6 +90,34 @@ fn unusable_by(state: &Stored) -> Unusable
     } else {
         forbids_stale(state)
     }
+}
+
+// What the response says of its lifetime by a directive.
+fn said_lifetime(state: &Stored) -> Seconds
+    ensures { result ≡ said_lifetime state.now.fields }
+{
+    if says(b"s-maxage", &state.fields) {
+        seconds_said(b"s-maxage", &state.fields)
+    } else {
+        seconds_said(b"max-age", &state.fields)
+    }
+}
+
+// Whether a directive says a number, or isn't there.
+fn is_number(said: Seconds) -> bool
+    ensures { result ≡ is_number said }
+{
+    match said {
+        Seconds::Absent | Seconds::Value(_) => true,
+        Seconds::Bare | Seconds::Unreadable => false,
+    }
+}
+
+/// Whether the response doesn't state its lifetime by what should be a number, and is none.
+pub(crate) fn is_read(state: &Stored) -> bool
+    ensures { result ≡ is_read state.now.fields }
+{
+    is_number(said_lifetime(state))
 }
 
 // The lifetime that the audit gives the response, which states none.
@@ -122,12 +158,15 @@ pub fn usage_at(claim: &ReplyClaim<'_>, state: &Stored) -> Usage
 {
     Usage {
         lifetime: explicit(&state.fields).then_some(lifetime_of(state)),
+        is_read: is_read(state),
+        may_be_guessed: takes_lifetime(state),
         lent: lent_to(claim, state),
         age: age_of(claim, state),
         parts: age_parts(claim, state),
         stale_by: stale_by(counted_lifetime(claim, state), age_of(claim, state)),
         forbidden: unusable_by(state),
         forbids_stale: forbids_stale(state),
+        is_permitted: is_permitted(claim, state),
         slack: claim.settings.slack,
         said: stale_said(claim, state),
         setting: told_setting(claim, state),
@@ -158,27 +197,35 @@ const NO_CACHE_FIELDS: Demand = Demand {
 };
 
 impl Usage {
-    /// What is asked of a response that states no lifetime: no RFC forbids to use it, but where it says `no-cache`, if that isn't
-    /// said of fields alone which the reply leaves out.
+    /// What is asked of a response that states no lifetime: no RFC forbids to use it where a cache may guess one, but where it says
+    /// `no-cache`, if that isn't said of fields alone which the reply leaves out.
     pub fn demand_of_lifetime(&self, leaves_fields_out: bool) -> Demand
         ensures { result.sections.now ≡ lifetime_sections self.now leaves_fields_out }
     {
-        match self.forbidden {
-            Unusable::NoCache if leaves_fields_out => NO_CACHE_FIELDS,
-            Unusable::NoCache => NO_CACHE,
-            _ => Demand::of(
+        let says_no_cache = self.forbidden == Unusable::NoCache;
+        if says_no_cache && !leaves_fields_out {
+            NO_CACHE
+        } else if !self.may_be_guessed {
+            Demand::of(
+                "RFC 9111 section 4.2.2",
+                "a lifetime can only be guessed of what is public, or of a status that may be stored where nothing says so",
+            )
+        } else if says_no_cache {
+            NO_CACHE_FIELDS
+        } else {
+            Demand::of(
                 "no RFC (RFC 9111 section 4.2.2 permits heuristics), but this auditor's stricter rule",
                 "what says no lifetime has none, but for --default-ttl",
-            ),
+            )
         }
     }
 
     // Whether a response of its lifetime is fresh at that age, as far as the audit is told to look.
-    fn is_fresh_at(&self, age: u64) -> bool
+    fn is_fresh_at(&self, age: u32) -> bool
         ensures { result ≡ is_fresh_at self.now age }
     {
         let lifetime = self.lifetime.unwrap_or(0).max(self.lent.unwrap_or(0));
-        age < u64::from(lifetime) + u64::from(self.slack)
+        u64::from(age) < u64::from(lifetime) + u64::from(self.slack)
     }
 
     // Whether the response is fresh where its age is counted by its Age alone.
@@ -192,18 +239,23 @@ impl Usage {
     }
 
     /// What is asked of the use of a response, after an error of the origin or not. What says `no-cache` of fields alone which
-    /// the reply leaves out may be used as if it didn't, as long as it is fresh.
+    /// the reply leaves out may be used as if it didn't.
     pub fn demand_of_use(&self, leaves_fields_out: bool, is_after_error: bool) -> Demand
         ensures { result.sections.now ≡ use_sections self.now leaves_fields_out is_after_error }
     {
         let says_no_cache = self.forbidden == Unusable::NoCache;
         if says_no_cache && !leaves_fields_out {
             NO_CACHE
-        } else if says_no_cache && self.is_fresh_at(u64::from(self.age)) {
+        } else if says_no_cache && (self.is_fresh_at(self.age) || self.is_permitted) {
             NO_CACHE_FIELDS
+        } else if !self.is_read {
+            Demand::of(
+                "no RFC (RFC 9111 section 4.2.1 encourages a cache to take as stale what says no number, and asks no more), but this auditor's stricter rule",
+                "what says a lifetime that is no number has the lifetime 0",
+            )
         } else if self.is_fresh_by_age_alone() {
             Demand::of(
-                "no RFC (RFC 9111 section 4.2.3 lets a cache count by Age alone where it trusts that), but this auditor's stricter rule",
+                AGE_ALONE,
                 "what is stale by its Age or by its Date isn't given before it is validated, but where that is permitted",
             )
         } else {

@@ -1,5 +1,5 @@
 -- What was due in place of a reply, and which ends of forwards are told of with it: the latest of its window, which lies behind the position of its request.
-use Rattle.std.specs.Prelude.{◌==◌, ◌&&◌, ℕ, Bool, true, false, nat_lt, List, [], ◌∷◌, Option, Some, None, option_copied, if◌then◌else◌}
+use Rattle.std.specs.Prelude.{◌==◌, ◌&&◌, ℕ, Bool, true, false, nat_le, nat_lt, List, [], ◌∷◌, Option, Some, None, option_copied, if◌then◌else◌}
 use Rattle.std.specs.List.{list_any}
 use Rattle.std.specs.Option.{option_map}
 use Rattle.hc_head.specs.declared.head.Target.{Target}
@@ -27,16 +27,16 @@ latest_since test since [] = None
 latest_since test since (item ∷ h) =
     if nat_lt since (next_position h) && test h item then Some (name_behind h item) else latest_since test since h
 
--- what was due: an answer of the origin, or the error by which it answered, or an error of the cache's own for a failure
+-- what was due: an answer of the origin, which may be another 5xx than an error; or the error by which it answered; or an error of the cache's own for a failure
 pub data DueAt : Type 0 where
-  Answer : DueAt
+  Answer : (is_error : Bool) → DueAt
   Error : (name : RecordName) → DueAt
   Failure : (name : RecordName) → DueAt
 
 -- the same by the end of a forward: its record, and the status of the response, which a failure hasn't
 abbrev pub due_by : RecordName → Option ℕ → DueAt
 due_by name None = Failure name
-due_by name (Some status) = if is_error_status status then Error name else Answer
+due_by name (Some status) = if is_error_status status then Error name else Answer (nat_le 500 status)
 
 -- whether an open forward of the claim's target was made for its exchange, as far as that is told, and asks what its request asks
 abbrev pub is_asked_for : Claim → Option ℕ → Option Forward → Bool
@@ -56,7 +56,7 @@ due_after claim h item before = before
 
 -- what is due by the items behind the claim's request; an answer where no such forward ended there
 abbrev pub due_since : Claim → List Item → DueAt
-due_since claim [] = Answer
+due_since claim [] = Answer false
 due_since claim (item ∷ h) =
     if nat_lt claim.since (next_position h) then due_after claim h item (due_since claim h) else due_since claim h
 
@@ -118,7 +118,7 @@ told_by_all claim told (end ∷ ends) = told_by_all claim (told_after claim told
 
 -- nothing
 abbrev pub none_told : Told
-none_told = record { carried = None; error = None; failure = None; due = Answer }
+none_told = record { carried = None; error = None; failure = None; due = Answer false }
 
 -- ---- what validated the response that is named
 
@@ -147,9 +147,15 @@ abbrev pub place_of_end : Option End → Option ℕ
 place_of_end end = option_map (λ e. e.named.position) end
 
 abbrev pub due_at : Due → DueAt
-due_at dues.Answer = Answer
+due_at (dues.Answer is_error) = Answer is_error
 due_at (dues.Error end) = Error end.now.named
 due_at (dues.Failure end) = Failure end.now.named
+
+-- the origin answered the request by a 5xx
+abbrev pub is_after_error : DueAt → Bool
+is_after_error (Answer is_error) = is_error
+is_after_error (Error name) = true
+is_after_error (Failure name) = false
 
 abbrev pub told_of : Ends → Told
 told_of ends = record {

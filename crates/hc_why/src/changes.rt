@@ -4,7 +4,7 @@
 ghost use Rattle.std.specs.Prelude.{◌≡◌, ◌&&◌, IfOk, OnOk, map, option_copied, true, if◌then◌else◌};
 ghost use Rattle.hc_head.specs.Targets.{same_target};
 ghost use Rattle.hc_history.specs.Forwarded.{asks_the_same};
-ghost use Rattle.hc_why.specs.Due.{due_at, due_by, is_error_by_status, may_answer, name_of_end, none_told, place_among, place_of_end, told_after, told_by, told_by_all, told_of, validated_in};
+ghost use Rattle.hc_why.specs.Due.{due_at, due_by, is_after_error, is_error_by_status, may_answer, name_of_end, none_told, place_among, place_of_end, told_after, told_by, told_by_all, told_of, validated_in};
 ghost use Rattle.hc_why.specs.Remembered.{end_seen};
 
 use crate::explaining::Explanation;
@@ -12,8 +12,8 @@ use crate::past::{End, Heads, copied_request};
 use crate::shortfalls::Nearest;
 use crate::window::asks_the_same;
 use crate::wrongs::Why;
-use hc_fields::{END_OF_MOMENTS, Fields, decimal};
-use hc_gaps::{Against, Demand, Newest, Rule, STORABLE_304, agree, first_against};
+use hc_fields::{END_OF_MOMENTS, Fields, decimal, is_among};
+use hc_gaps::{Against, Demand, Newest, Rule, agree, first_against};
 use hc_head::{StatusCode, Target, is_error_status, is_head};
 use hc_history::{ReplyClaim, passed};
 use hc_rules::selects;
@@ -25,6 +25,15 @@ use std::alloc::{AllocError, Global};
 pub(crate) const INVALIDATED: Demand = Demand {
     sections: "RFC 9111 section 4.4",
     words: "what an unsafe method invalidated MUST NOT be given before it is validated",
+};
+
+/// The methods that are registered as safe, and aren't taken so here.
+const SAFE: [&[u8]; 5] = [b"PRI", b"PROPFIND", b"QUERY", b"REPORT", b"SEARCH"];
+
+/// What a safe method invalidates as well.
+pub(crate) const INVALIDATED_BY_SAFE: Demand = Demand {
+    sections: "no RFC (RFC 9111 section 4.4 asks it of unsafe methods, and this one is registered as safe), but this auditor's stricter rule",
+    words: "what a method but GET, HEAD, OPTIONS and TRACE invalidated isn't given before it is validated",
 };
 
 /// HEAD changes nothing that is stored.
@@ -49,8 +58,8 @@ pub struct NotAbout<'a> {
 /// What was due in place of a response that may not be given.
 #[derive(Clone, Copy)]
 pub enum Due<'a> {
-    /// An answer of the origin to the request.
-    Answer,
+    /// An answer of the origin to the request: whether what came is a 5xx all the same, which a cache may take for none.
+    Answer(bool),
     /// The error by which the origin answered it last.
     Error(&'a End),
     /// An error of the cache's own, since the forward failed that was made for it last.
@@ -209,7 +218,20 @@ fn due_with<'a>(is_asked_for: bool, end: &'a End, before: Due<'a>) -> Due<'a>
     if is_error_status(status) {
         Due::Error(end)
     } else {
-        Due::Answer
+        Due::Answer(500 <= status.as_u16())
+    }
+}
+
+impl Due<'_> {
+    /// Whether the origin answered the request by a 5xx.
+    pub(crate) fn is_after_error(&self) -> bool
+        ensures { result ≡ is_after_error (due_at self.now) }
+    {
+        match self {
+            Due::Error(_) => true,
+            Due::Answer(is_error) => *is_error,
+            Due::Failure(_) => false,
+        }
     }
 }
 
@@ -225,7 +247,7 @@ impl<'a> Ends<'a> {
             near: Newest::new(alloc),
             carried: None,
             is_given_before: false,
-            due: Due::Answer,
+            due: Due::Answer(false),
             error: None,
             failure: None,
             validator: None,
@@ -390,6 +412,16 @@ impl<'a> Ends<'a> {
         Ok(())
     }
 
+    /// Whether what invalidated the response are methods that are registered as safe.
+    pub(crate) fn is_by_safe(&self) -> bool {
+        for end in self.invalidators.named.iter() {
+            if !is_among(&SAFE, end.method.as_slice()) {
+                return false;
+            }
+        }
+        !self.invalidators.is_empty() && self.invalidators.older == 0
+    }
+
     /// Whether a 304 isn't about the response by its Vary alone.
     pub(crate) fn has_unselected(&self) -> bool {
         for not_about in self.not_about.named.iter() {
@@ -489,11 +521,13 @@ impl Explanation<'_> {
         let mut stricter = None;
         for not_about in self.ends.not_about.named.iter() {
             if not_about.is_stricter {
-                stricter = Some(not_about.end);
+                stricter = Some(*not_about);
             }
         }
         match stricter {
-            Some(end) if self.helps(end)? => return Ok(Some(STORABLE_304)),
+            Some(latest) if self.helps(latest.end)? => {
+                return Ok(Some(latest.against.stricter_demand()));
+            }
             _ => {}
         }
         match self.ends.updated {

@@ -5,18 +5,22 @@ ghost use Rattle.std.specs.Option.{option_map};
 ghost use Rattle.hc_gaps.specs.Demanding.{first_in, renewed_in};
 ghost use Rattle.hc_why.specs.Demanding.{demanded_sections};
 
-use crate::changes::{Due, INVALIDATED};
+use crate::changes::{INVALIDATED, INVALIDATED_BY_SAFE};
 use crate::explaining::Explanation;
+use crate::past::Heads;
 use crate::shortfalls::{Nearest, Shortfall};
 use crate::unstored::Unstored;
 use crate::wrongs::Why;
 use hc_fields::Fields;
 use hc_gaps::{
-    Demand, FieldsOrigin, Forbids, NO_HIT, PRIVATE_FIELDS, STORED_ANSWER, TTL, leaves_out,
+    Demand, FieldsOrigin, Forbids, NO_HIT, PRIVATE_FIELDS, STORED_ANSWER, UNRECORDED, leaves_out,
 };
-use hc_head::StatusCode;
-use hc_history::Reason;
+use hc_head::{StatusCode, is_head};
+use hc_history::{Finding, Reason};
+use hc_rules::selects;
 use hc_shown::RecordName;
+use hc_transcript::ToldCause;
+use std::alloc::AllocError;
 
 /// A 304 is given to no later request.
 const NO_RESPONSE: Demand = Demand {
@@ -24,7 +28,43 @@ const NO_RESPONSE: Demand = Demand {
     words: "a 304 updates what is stored, and isn't itself what a later request is given",
 };
 
+/// Vary compares what was forwarded.
+const AS_FORWARDED: Demand = Demand {
+    sections: "no RFC (RFC 9111 section 4.1 compares with the request as it was asked, before it was forwarded), but this auditor's stricter rule",
+    words: "a stored response answers no request that differs in what its Vary names from what was forwarded for it",
+};
+
 impl Explanation<'_> {
+    /// What is asked where the response that is named isn't selected by the request that was forwarded, but by the one that was
+    /// asked, as far as that is known.
+    pub(crate) fn permitted_selection(&self) -> Result<Option<Demand>, AllocError> {
+        let Some(nearest) = &self.nearest else {
+            return Ok(None);
+        };
+        let is_it = self.finding == Finding::Wrong(Reason::Vary);
+        let (true, Some(source)) = (is_it, self.source(nearest.position)) else {
+            return Ok(None);
+        };
+        let Some(
+            Heads {
+                asked: Some(asked),
+                ..
+            },
+        ) = &source.heads
+        else {
+            return Ok(None);
+        };
+        if source.told_cause(&self.claim) == ToldCause::NoExchange {
+            return Ok(None);
+        }
+        let request = &self.claim.request.fields;
+        if selects(self.alloc, &nearest.state.fields, asked, request)? {
+            Ok(Some(AS_FORWARDED))
+        } else {
+            Ok(None)
+        }
+    }
+
     /// What is asked of a reply that is wrong for that reason: by the way in which the stored response that is named falls
     /// short, where that is what it doesn't keep, or where the reply went forward and is to be that response, or gives it.
     pub fn demand(&self, reason: Reason) -> Demand {
@@ -35,7 +75,7 @@ impl Explanation<'_> {
             return permitted;
         }
         let is_forwarded = match self.why {
-            Some(Why::NoResponse(Unstored::OtherMethod)) => false,
+            Some(Why::NoResponse(Unstored::OtherMethod)) => return STORED_ANSWER,
             Some(Why::NoResponse(_)) => return self.demand_of_storing(),
             Some(Why::NotForwarded(_)) => true,
             _ => false,
@@ -48,21 +88,43 @@ impl Explanation<'_> {
                 }
             }
         }
-        Demand::of_reason(reason)
+        Demand::of_reason(reason, self.may_be(reason))
+    }
+
+    // Whether what went forward may be of the cache's own making, or what was collapsed is what was stored before its request, and
+    // may be given.
+    fn may_be(&self, reason: Reason) -> bool {
+        if reason == Reason::NotForwarded {
+            return 500 <= self.claim.reply.head.status.as_u16();
+        }
+        for reach in self.before.named.iter() {
+            if reach.breaks.is_none() {
+                return true;
+            }
+        }
+        false
     }
 
     // What is asked of a hit for which nothing is stored: by what forbids to store the response that it gives, or else the
     // latest; of a 304 beside its status and method.
     fn demand_of_storing(&self) -> Demand {
         let Some(end) = self.given_unstored().or(self.ends.unstored.last().copied()) else {
-            return STORED_ANSWER;
+            return UNRECORDED;
         };
         let (Some(mut forbids), Some(heads)) = (end.forbids, &end.heads) else {
-            return STORED_ANSWER;
+            return UNRECORDED;
         };
         if end.status == Some(StatusCode::NOT_MODIFIED) {
             forbids.status = false;
             forbids.method = false;
+            forbids.by_head = false;
+            forbids.uncacheable = false;
+        }
+        if self.claim.reply.head.status == StatusCode::PARTIAL_CONTENT {
+            forbids.partial = false;
+        }
+        if is_head(&self.claim.request.method) {
+            forbids.by_head = false;
         }
         if forbids.is_nothing() {
             return NO_RESPONSE;
@@ -90,14 +152,23 @@ impl Explanation<'_> {
         shortfall.demand(&Circumstances {
             leaves_out: self.leaves_out(b"no-cache", &nearest.state.fields),
             is_after_304: self.ends.has_unselected(),
-            is_after_error: matches!(self.ends.due, Due::Error(_)),
+            is_after_error: self.ends.due.is_after_error(),
+            is_by_safe: self.ends.is_by_safe(),
             status: self.claim.reply.head.status,
             position: origin.position,
             validator: origin.validator,
             first: origin.first,
-            since: self.claim.since,
-            validated_at: nearest.state.validated_at,
+            is_for_it: self.is_validated_for_it(nearest),
+            was_validated: nearest.state.validated_at.is_some(),
         })
+    }
+
+    // Whether a 304 after the request validated that response which may have come for the request.
+    fn is_validated_for_it(&self, nearest: &Nearest<'_>) -> bool {
+        match self.ends.validator {
+            Some(validator) => self.was_validated(nearest) && validator.may_answer(&self.claim),
+            None => false,
+        }
     }
 }
 
@@ -108,8 +179,10 @@ struct Circumstances<'a> {
     leaves_out: bool,
     // Whether a 304 came that Vary alone kept from validating it.
     is_after_304: bool,
-    // Whether the origin answered the request by an error.
+    // Whether the origin answered the request by a 5xx.
     is_after_error: bool,
+    // Whether what invalidated the response are methods that are registered as safe.
+    is_by_safe: bool,
     // The status of the reply.
     status: StatusCode,
     // The position of the response.
@@ -118,10 +191,10 @@ struct Circumstances<'a> {
     validator: Option<(RecordName, &'a Fields)>,
     // The fields with which the response came, as far as they are known.
     first: Option<&'a Fields>,
-    // The position of the request.
-    since: u64,
-    // That of the 304 that validated the response last.
-    validated_at: Option<u64>,
+    // Whether a 304 to the request validated the response, or may have.
+    is_for_it: bool,
+    // Whether a 304 ever did.
+    was_validated: bool,
 }
 
 impl<'a> Circumstances<'a> {
@@ -146,13 +219,14 @@ impl Shortfall {
         match self {
             Shortfall::Asked => STORED_ANSWER,
             Shortfall::Selected(selection) => selection.demand(about.is_after_304),
+            Shortfall::Valid if about.is_by_safe => INVALIDATED_BY_SAFE,
             Shortfall::Valid => INVALIDATED,
             Shortfall::Lifetime(usage) => usage.demand_of_lifetime(about.leaves_out),
             Shortfall::Use(usage) => usage.demand_of_use(about.leaves_out, about.is_after_error),
             Shortfall::Body(gap) => gap.demand(),
             Shortfall::Fields(found) => found.demand(about.status, about.fields_origin()),
-            Shortfall::Age(gap) => gap.demand(about.since, about.validated_at, about.status),
-            Shortfall::Ttl(_) => TTL,
+            Shortfall::Age(gap) => gap.demand(about.is_for_it, about.was_validated, about.status),
+            Shortfall::Ttl(gap) => gap.demand(),
         }
     }
 }

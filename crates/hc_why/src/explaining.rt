@@ -279,7 +279,8 @@ impl<'a> Explanation<'a> {
         if self.why.is_none() && self.way == Way::Forwarded && self.ends.carried.is_some() {
             self.nearest = None;
         }
-        self.permitted = self.permitted_change()?.or(self.permitted);
+        let permitted = self.permitted_change()?.or(self.permitted_selection()?);
+        self.permitted = permitted.or(self.permitted);
         Ok(())
     }
 

@@ -30,6 +30,8 @@ const LONGEST_BODY: usize = 16_384;
 /// The head of a forward, and that of the response to it.
 #[derive(Drop)]
 pub struct Heads {
+    /// The fields of the request that the forward was made for, as far as it is known for which, and that waits still.
+    pub asked: Option<Fields>,
     /// What was sent to the origin.
     pub forward: RequestHead,
     /// What the origin answered.
@@ -59,6 +61,14 @@ pub struct End {
     pub heads: Option<Heads>,
 }
 
+// A request that waits for its reply.
+#[derive(Drop)]
+struct Asked {
+    // The position of its record.
+    position: u64,
+    fields: Fields,
+}
+
 /// What is remembered of the records before a reply: of one target, or of hosts that have its path, all ends of forwards,
 /// with their heads and bodies; of all targets the latest ends, and what forbids to store the latest response of each. The latter
 /// takes no more than so much memory.
@@ -68,8 +78,8 @@ pub struct Past {
     only: Option<Target>,
     // The records of the open forwards by their numbers, where it is one target.
     sent: BTreeMap<u64, RecordName>,
-    // The open exchanges by their numbers, where it is one target: the positions of their requests.
-    asked: BTreeMap<u64, u64>,
+    // The requests of the open exchanges by their numbers, where it is one target.
+    asked: BTreeMap<u64, Asked>,
     // The position of the latest reply there, 0 where there is none.
     answered: u64,
     /// The ends of forwards that are remembered, the oldest first.
@@ -112,6 +122,16 @@ pub(crate) fn copied_request(alloc: Global, head: &RequestHead) -> Result<Reques
         version: head.version,
         fields: head.fields.copy(alloc)?,
     })
+}
+
+// What forbids to store that answer to that request, if something does.
+fn forbidden_by(request: &RequestHead, answer: &ResponseHead) -> Option<Forbids> {
+    let forbids = what_forbids(request, answer);
+    if forbids.is_nothing() {
+        None
+    } else {
+        Some(forbids)
+    }
 }
 
 // The record that passed, of that kind.
@@ -178,7 +198,9 @@ impl Past {
     {
         match &passed.item.of {
             Meaning::OriginRequest { target, .. } => self.take_sent(passed, target),
-            Meaning::ClientRequest { target, .. } => self.take_asked(passed, target),
+            Meaning::ClientRequest { target, request } => {
+                self.take_asked(passed, target, &request.head.fields)
+            }
             Meaning::OriginResponse(response) => {
                 self.take(passed, Kind::OriginResponse, Some(response))
             }
@@ -208,14 +230,28 @@ impl Past {
         &mut self,
         passed: &PassedRecord<'_, I>,
         target: &Target,
+        fields: &Fields,
     ) -> Result<(), AllocError>
         ensures { (one : Target) (ends : List EndSeen) → Remembers one ends self.old → Remembers one ends self.new }
     {
         if !self.is_of_one(target) {
             return Ok(());
         }
-        self.asked.insert(passed.item.number, passed.position)?;
+        let asked = Asked {
+            position: passed.position,
+            fields: fields.copy(self.alloc)?,
+        };
+        drop(self.asked.insert(passed.item.number, asked)?);
         Ok(())
+    }
+
+    // The fields of the request that a forward was made for of that cause, if that is told, or only one can be meant.
+    fn asked_for(&self, cause: Option<u64>) -> Option<&Fields> {
+        match cause {
+            Some(exchange) => Some(&self.asked.get(&exchange)?.fields),
+            None if self.asked.len() == 1 => Some(&self.asked.values().next()?.fields),
+            None => None,
+        }
     }
 
     /// Takes in a reply to an exchange of the one target.
@@ -272,16 +308,11 @@ impl Past {
             return Ok(());
         };
         let head = &response.head;
-        let forbids = what_forbids(request, head);
-        end.forbids = if forbids.is_nothing() {
-            None
-        } else {
-            Some(forbids)
-        };
+        end.forbids = forbidden_by(request, head);
         self.forbid(&end.target, end.forbids)?;
         end.status = Some(head.status);
         end.body = self.remembered_body(&response.body)?;
-        end.heads = self.remembered_heads(request, head)?;
+        end.heads = self.remembered_heads(end.cause, request, head)?;
         Ok(())
     }
 
@@ -298,13 +329,19 @@ impl Past {
     // The heads, if they are remembered.
     fn remembered_heads(
         &self,
+        cause: Option<u64>,
         request: &RequestHead,
         head: &ResponseHead,
     ) -> Result<Option<Heads>, AllocError> {
         if self.only.is_none() {
             return Ok(None);
         }
+        let asked = match self.asked_for(cause) {
+            Some(fields) => Some(fields.copy(self.alloc)?),
+            None => None,
+        };
         Ok(Some(Heads {
+            asked,
             forward: copied_request(self.alloc, request)?,
             response: ResponseHead {
                 status: head.status,

@@ -15,4 +15,4 @@ pub returns : goal.returns
 returns c = λ names are.
     taken c.args.claim.now c.args.state.now names c.args.name.now c.args.self.now _ _ (sym c.in_ok-differs.ensures ∙ c.if-not-branch.false)
     (omega (arith, c.if-len-ge-MOST_LISTED.false, c.len.ensures, c.args.self.now.listed.ok.0))
-    c.in_ok-push.ensures.items refl c.in_ok-from_slice.ensures c.change_of.ensures are
+    c.in_ok-push.ensures.items refl c.in_ok-from_slice.ensures c.change_of-change.ensures are
