@@ -220,12 +220,13 @@ def by_head(reply, state):
     told, names, found = reply.record.fields, reply.gaps(state), set()
     for end in reply.ends:
         due = {name: values(state.fields, name) for name in ("etag", "last-modified")}
-        due["content-length"] = [str(len(state.body))]
         is_about = all(values(end.fields, name) in ([], each) for name, each in due.items())
         if end.of.method == "HEAD" and end.status == 200 and end.position > state.settled and is_about:
             made = walks.replaced(state.fields, walks.stored_fields(end.fields, end.moment)[0])
+            is_long = values(end.fields, "content-length") in ([], [str(len(state.body))])
             if all(values(told, name) == values(made, name) for name in names):
-                found.add(None if walks.unmet(state, end.of.fields) else True)  # Vary may be normalized.
+                # Vary may be normalized; and of another length the line itself says that it tells otherwise.
+                found.add(None if walks.unmet(state, end.of.fields) or not is_long else True)
     return True if True in found else None if found else False
 
 

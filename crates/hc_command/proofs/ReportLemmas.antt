@@ -20,7 +20,7 @@ use Rattle.hc_audit.specs.declared.survey.Survey.{Survey}
 use Rattle.hc_audit.specs.Endings.{EndsSo}
 use Rattle.hc_audit.proofs.SurveyLemmas.{counted_whole}
 use Rattle.hc_why.specs.Seeking.{IsOfPlace, wrong_at}
-use Rattle.hc_why.specs.Standing.{stands_at}
+use Rattle.hc_past.specs.Standing.{stands_at}
 use Rattle.hc_auditing.proofs.AuditLemmas.{at_end, before_end}
 use Rattle.hc_command.specs.declared.surveying.Stop.{Stop}
 use Rattle.hc_command.specs.declared.surveying.Stop.TheVariants as stop

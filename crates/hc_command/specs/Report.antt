@@ -18,8 +18,9 @@ use Rattle.hc_audit.specs.declared.survey.Survey.{Survey}
 use Rattle.hc_audit.specs.Endings.{EndsSo, IsSurveyOf}
 use Rattle.hc_audit.specs.Surveying.{AreCounted, Surveys}
 use Rattle.hc_why.specs.Seeking.{reason_in, wrong_at}
-use Rattle.hc_why.specs.Standing.{stands_at}
+use Rattle.hc_past.specs.Standing.{stands_at}
 use Rattle.hc_explain.specs.Heads.{IsHead}
+use Rattle.hc_why.specs.declared.explaining.Way.{Way}
 use Rattle.hc_command.specs.declared.surveying.Outcome.{Outcome}
 use Rattle.hc_command.specs.declared.surveying.Outcome.TheVariants.{Whole, Broken}
 use Rattle.hc_command.specs.declared.surveying.Stop.{Stop}
@@ -109,7 +110,7 @@ reply_status (Wrong why) = 1
 
 -- the line heads the explanation of the reply at that position
 abbrev pub IsHeadLine : ℕ → Finding → List ℕ → Type 0
-IsHeadLine position finding line = (head : List ℕ) × IsHead position finding head × (line ≡ head ++ 10 ∷ [])
+IsHeadLine position finding line = (way : Way) × (head : List ℕ) × IsHead position finding way head × (line ≡ head ++ 10 ∷ [])
 
 -- the writer got the line that heads the explanation of that reply, and behind it more, and this is its status
 pub record SaysHead (position : ℕ) (finding : Finding) (old new : Option (List ℕ)) (status : ℕ) : Type 0 where

@@ -3,21 +3,22 @@
 ghost use Rattle.std.specs.Prelude.{◌≡◌, ◌++◌, List, [], ℕ, IfOk, OnOk, string_bytes};
 ghost use Rattle.hc_explain.specs.Heads.{IsHead};
 ghost use Rattle.hc_explain.specs.Hearing.{HasHeard};
-ghost use Rattle.hc_why.specs.Found.{finding_of, position_of};
+ghost use Rattle.hc_why.specs.Found.{finding_of, position_of, way_found};
 
 use crate::object::Object;
 use crate::telling::tell;
 use hc_audit::{JudgedReply, PassedRecord, Witness};
 use hc_history::Finding;
 use hc_index::Index;
+use hc_past::Past;
 use hc_shown::Page;
-use hc_why::{Explanation, FoundReply, Past};
+use hc_why::{Explanation, FoundReply};
 use std::alloc::{AllocError, Global};
 use std::fmt::Write;
 
 /// Writes the head line of an explanation, without its end: `no 444 3 Invalidated`, or `right 444 hit`.
 pub fn say_head(found: &FoundReply, out: &mut String) -> Result<(), AllocError>
-    ensures { OnOk result ((head : List ℕ) × IsHead (position_of found.now) (finding_of found.now) head
+    ensures { OnOk result ((head : List ℕ) × IsHead (position_of found.now) (finding_of found.now) (way_found found.now) head
         × (string_bytes out.new ≡ string_bytes out.old ++ head)) }
 {
     let position = found.position;

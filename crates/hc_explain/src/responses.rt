@@ -1,13 +1,11 @@
 //! What is told of the response that a reply carries, or that it is to carry: the rule that it breaks, and what was due.
 
 use crate::telling::{begin_between, say_cache_status};
-use hc_gaps::Rule;
 use hc_history::{Reason, ReplyClaim};
+use hc_past::{End, Nearest, NoMark, Shortfall, Unstored, Why, Window, tell_unstored};
 use hc_shown::Teller;
-use hc_why::{
-    Due, End, Ends, Explanation, Nearest, NoMark, Shortfall, Unstored, Way, Why, Window,
-    tell_unstored,
-};
+use hc_use::Rule;
+use hc_why::{Due, Ends, Explanation, Way};
 
 /// What a reply has that isn't from the store.
 const ANSWER: &str = "an answer of the origin to this request";
@@ -281,7 +279,7 @@ fn say_validated<T: Teller>(known: &Explanation<'_>, nearest: &Nearest<'_>, tell
 
 // Tells why nothing is stored that the reply might be, after the response that it gives, if one is recorded.
 fn tell_no_response<T: Teller>(known: &Explanation<'_>, unstored: &Unstored, teller: &mut T) {
-    let given = known.given_unstored();
+    let given = known.ends.given;
     if let Some(end) = given {
         say_carried(end, &known.claim, teller);
     }

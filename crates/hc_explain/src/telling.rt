@@ -3,8 +3,9 @@
 
 use crate::responses::{tell_broken, tell_right, tell_stale, tell_wrong};
 use hc_history::{Finding, ReplyClaim};
+use hc_past::{End, Reach};
 use hc_shown::{FieldOf, Teller};
-use hc_why::{End, Explanation, Reach, Way};
+use hc_why::{Explanation, Way};
 
 /// The fields of a request that say what it asks besides its target.
 const ASKING: [&[u8]; 8] = [

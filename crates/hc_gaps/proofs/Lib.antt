@@ -2,8 +2,4 @@ pub mod AgainstLemmas
 pub mod FirstLemmas
 pub mod ListedLemmas
 pub mod NameLemmas
-pub mod PermitLemmas
-pub mod SettingLemmas
-pub mod StoringLemmas
 pub mod UnmetLemmas
-pub mod UsingLemmas

@@ -1,13 +1,6 @@
 pub mod Against
-pub mod Aging
+pub mod Contents
 pub mod Demanding
 pub mod Differing
 pub mod Firsts
-pub mod Forbidding
-pub mod Laws
-pub mod Permits
-pub mod Rules
 pub mod Selecting
-pub mod Stale
-pub mod Trusting
-pub mod Using

@@ -5,13 +5,13 @@ ghost use Rattle.hc_head.specs.Statuses.{not_modified};
 ghost use Rattle.hc_update.specs.Identifying.{identifies};
 ghost use Rattle.hc_gaps.specs.Against.{against_of, telling_of};
 
-use crate::demand::Demand;
 use hc_fields::{Fields, trimmed};
 use hc_fresh::says;
 use hc_head::{RequestHead, ResponseHead, is_get, is_head};
 use hc_rules::{last_modified, selects, tag};
 use hc_shown::{FieldOf, Teller};
 use hc_update::{Stored, identifies};
+use hc_use::Demand;
 use std::alloc::{AllocError, Global};
 
 /// The field by which a 304 tells which response it is about: its ETag, or else its Last-Modified, or else the If-None-Match or

@@ -2,9 +2,9 @@
 
 ghost use Rattle.std.specs.Prelude.{◌≡◌, codes};
 ghost use Rattle.hc_rules.specs.Conditions.{only_date};
+ghost use Rattle.hc_gaps.specs.Contents.{IsContentGap, body_gap_of, has_body, in_common};
 ghost use Rattle.hc_gaps.specs.Demanding.{content_sections, failing_sections, found_sections, gap_sections, is_by_date, is_of_success, is_transformed, unearned_sections};
 
-use crate::demand::Demand;
 use hc_fields::Fields;
 use hc_fresh::{read_date, says};
 use hc_head::{Method, StatusCode, is_head};
@@ -12,6 +12,7 @@ use hc_history::ReplyClaim;
 use hc_rules::client_condition;
 use hc_shown::{FieldOf, Teller};
 use hc_update::Stored;
+use hc_use::Demand;
 
 // What a reply claims, and a stored response.
 type Pair<'a> = (&'a ReplyClaim<'a>, &'a Stored);
@@ -73,18 +74,20 @@ pub struct ContentGap {
     bodies: Option<BodyGap>,
 }
 
-fn octets_in_common(one: &[u8], other: &[u8]) -> u64 {
-    let most = one.len().min(other.len());
-    for place in 0..most {
-        if one[place] != other[place] {
-            return place as u64;
-        }
-    }
-    most as u64
+// How many octets both begin with.
+fn octets_in_common(one: &[u8], other: &[u8]) -> u64
+    ensures { result ≡ in_common one.now other.now }
+{
+    one.iter()
+        .zip(other.iter())
+        .take_while(|pair| pair.0 == pair.1)
+        .count() as u64
 }
 
 /// Whether the reply to a request of that method has the body that is due, or none where the request is HEAD.
-pub fn has_body(method: &Method, told: &[u8], due: &[u8]) -> bool {
+pub fn has_body(method: &Method, told: &[u8], due: &[u8]) -> bool
+    ensures { result ≡ has_body method.now told.now due.now }
+{
     if is_head(method) {
         told.is_empty()
     } else {
@@ -93,7 +96,9 @@ pub fn has_body(method: &Method, told: &[u8], due: &[u8]) -> bool {
 }
 
 /// How the body of the reply to a request of that method differs from the one that is due, if it does.
-pub fn body_gap(method: &Method, told: &[u8], due: &[u8]) -> Option<BodyGap> {
+pub fn body_gap(method: &Method, told: &[u8], due: &[u8]) -> Option<BodyGap>
+    ensures { result ≡ body_gap_of method.now told.now due.now }
+{
     if has_body(method, told, due) {
         return None;
     }
@@ -210,7 +215,7 @@ fn content_of(claim: &ReplyClaim<'_>, state: &Stored) -> Content
 
 /// In what the status or the body of the reply differs from the response's.
 pub fn content_gap(claim: &ReplyClaim<'_>, state: &Stored) -> ContentGap
-    ensures { gap_sections result ≡ content_sections claim.now state.now }
+    ensures { IsContentGap claim.now state.now result }
 {
     let body = claim.reply.body.as_slice();
     ContentGap {

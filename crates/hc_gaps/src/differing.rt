@@ -5,9 +5,7 @@ ghost use Rattle.hc_history.specs.Filters.{compared_names, names_of};
 ghost use Rattle.hc_gaps.specs.Demanding.{change_sections, difference_sections, first_in, free_sections, frees_date, has_become, has_bound, has_bound_date, has_bound_repeated, has_freedom, has_listed, has_renewed, has_unlisted, is_bound, is_repeated, is_undated, renewed_in, renews};
 ghost use Rattle.hc_gaps.specs.Differing.{AreDifferences, AreListed, IsGap, change_of, differs, with_name, with_names};
 
-use crate::demand::Demand;
 use crate::forms::{means_the_same, need_not_be_stored};
-use crate::newest::NAMED;
 use hc_fields::{Field, Fields, Octets, is_among};
 use hc_fresh::date_stated;
 use hc_head::StatusCode;
@@ -15,6 +13,7 @@ use hc_history::{ReplyClaim, differs, is_of_content};
 use hc_rules::REPEATED_NAMES;
 use hc_shown::{FieldOf, Page, RecordName, Teller};
 use hc_update::Stored;
+use hc_use::{Demand, NAMED};
 use std::alloc::{AllocError, Global};
 
 /// How many fields are listed at most.

@@ -4,13 +4,12 @@ ghost use Rattle.std.specs.Prelude.{◌≡◌, ◌++◌, List, ℕ, [], ◌∷�
 ghost use Rattle.hc_gaps.specs.Demanding.{has_named_other, has_other, has_star, names_all, selecting_sections};
 ghost use Rattle.hc_gaps.specs.Selecting.{AreNamed, AreUnmet, is_unmet};
 
-use crate::demand::Demand;
 use crate::forms::means_the_same;
-use crate::newest::NAMED;
 use hc_fields::{Octets, is_token};
 use hc_history::{ReplyClaim, is_met_or_normalized};
 use hc_shown::{FieldOf, Page, RecordName, Teller};
 use hc_update::Stored;
+use hc_use::{Demand, NAMED};
 use std::alloc::{AllocError, Global};
 
 /// A member of a Vary that doesn't select the request.

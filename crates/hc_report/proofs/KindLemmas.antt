@@ -21,7 +21,7 @@ use Rattle.hc_report.specs.declared.report.Report.{Report}
 use Rattle.hc_figures.specs.declared.listed.ListedReply.{ListedReply}
 use Rattle.hc_figures.specs.declared.listed.ShownRequest.{ShownRequest}
 use Rattle.hc_figures.specs.Listed.{ListsNext}
-use Rattle.hc_why.specs.Standing.{answered, newest_exchange}
+use Rattle.hc_past.specs.Standing.{answered, newest_exchange}
 use Rattle.hc_report.specs.Kinds.{AreShownIn, IsShownIn, IsShownOf, kind_in, kind_to, kinds_in, method_shown}
 use Rattle.hc_figures.specs.Requests.{kind_text}
 use Rattle.hc_report.specs.Told.{TellsOf}

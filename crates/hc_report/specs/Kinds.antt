@@ -3,7 +3,7 @@ use Rattle.std.specs.Prelude.{◌≡◌, ◌≤◌, ℕ, List, [], ◌∷◌, Op
 use Rattle.hc_transcript.specs.Items.{Exchange, Item}
 use Rattle.hc_history.specs.declared.reasons.Reason.{Reason}
 use Rattle.hc_history.specs.declared.wrong.WrongReply.{WrongReply}
-use Rattle.hc_why.specs.Standing.{exchange_at}
+use Rattle.hc_past.specs.Standing.{exchange_at}
 use Rattle.hc_shown.specs.Octets.{octets_text}
 use Rattle.hc_shown.specs.Values.{target_text}
 use Rattle.hc_figures.specs.Kinds.{Kind}

@@ -8,8 +8,8 @@ use hc_fields::Octets;
 use hc_gaps::{Change, Differences, FieldGap};
 use hc_history::{Reason, ReplyClaim, Settings};
 use hc_index::Index;
+use hc_past::{Past, Shortfall, Wrong, names_response};
 use hc_shown::{Page, Teller};
-use hc_why::{Past, Shortfall, Wrong, names_response};
 use std::alloc::{AllocError, Global};
 
 // How many groups, targets of a group and suspected fields are kept at most.

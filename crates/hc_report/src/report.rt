@@ -20,8 +20,8 @@ use hc_audit::{JudgedReply, PassedRecord, Witness};
 use hc_figures::{ListedReplies, Object, ReplyCounts, ShownRequest};
 use hc_history::{Counts, Ending, Finding, Reason, ReplyClaim, Settings, WrongReply};
 use hc_index::Index;
+use hc_past::Past;
 use hc_shown::{Page, push_target};
-use hc_why::Past;
 use std::alloc::{AllocError, Global};
 
 /// What is said of a recording: what its replies say of themselves, which of them are wrong and by what, and what

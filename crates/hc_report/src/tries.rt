@@ -4,11 +4,12 @@ ghost use Rattle.std.specs.Prelude.{◌≤◌, ◌+◌, length};
 ghost use Rattle.hc_report.specs.declared.tries.TheConstants.{MOST_NAMES};
 
 use hc_audit::JudgedReply;
-use hc_gaps::{Change, Differences, Rule, rule_behind};
-use hc_history::{Candidate, Finding, Reason, Settings, UnmarkedReplies};
+use hc_gaps::{Change, Differences};
+use hc_history::{Candidate, Finding, Reason, Settings};
 use hc_index::Index;
+use hc_past::Wrong;
 use hc_shown::{Page, Teller};
-use hc_why::Wrong;
+use hc_use::{Rule, Setting, rule_behind};
 use std::alloc::{AllocError, Global};
 
 /// A wrong reply that may carry those responses.
@@ -45,138 +46,70 @@ impl WrongCase<'_> {
     }
 }
 
-// What is let pass besides. `All` is added fields, joined lines and ranges.
-#[derive(Clone, Copy)]
-enum Allowance {
-    Slack(u32),
-    Unmarked,
-    AddedFields,
-    JoinedLines,
-    Ranges,
-    All,
-    Grace(u32),
-    AgeSlack(u32),
-    DefaultLifetime(u32),
-    InferredMarks,
-}
-
 // What is tried beside so much slack.
-fn allowances(slack: u32) -> [Allowance; 14] {
+fn settings_beside(slack: u32) -> [Setting; 14] {
     [
-        Allowance::Slack(slack.saturating_add(1)),
-        Allowance::Slack(slack.saturating_add(5)),
-        Allowance::Unmarked,
-        Allowance::AddedFields,
-        Allowance::JoinedLines,
-        Allowance::Ranges,
-        Allowance::All,
-        Allowance::Grace(10),
-        Allowance::Grace(60),
-        Allowance::AgeSlack(1),
-        Allowance::AgeSlack(5),
-        Allowance::DefaultLifetime(60),
-        Allowance::DefaultLifetime(86_400),
-        Allowance::InferredMarks,
+        Setting::Slack(u64::from(slack) + 1),
+        Setting::Slack(u64::from(slack) + 5),
+        Setting::Unmarked,
+        Setting::AddedFields,
+        Setting::JoinedLines,
+        Setting::Ranges,
+        Setting::All,
+        Setting::Grace(10),
+        Setting::Grace(60),
+        Setting::AgeSlack(1),
+        Setting::AgeSlack(5),
+        Setting::DefaultLifetime(60),
+        Setting::DefaultLifetime(86_400),
+        Setting::InferredMarks,
     ]
 }
 
-// Raises something to that, and tells whether it was less.
-fn raise<T: PartialOrd + Copy>(place: &mut T, to: T) -> bool {
-    let is_more = *place < to;
-    if is_more {
-        *place = to;
+// Whether that setting may make that reply right, so that it is tried.
+fn serves(setting: Setting, case: &WrongCase<'_>, wrong: &Wrong<'_>) -> bool {
+    match setting {
+        Setting::Slack(_) => case.breaks(&[Rule::Lifetime, Rule::Use, Rule::Age, Rule::Ttl]),
+        Setting::Unmarked | Setting::InferredMarks => case.reason == Reason::Unmarked,
+        Setting::AddedFields => case.breaks(&[Rule::Fields]),
+        Setting::JoinedLines => case.breaks(&[Rule::Fields]) && case.may_be_joined(wrong),
+        Setting::Ranges => case.asks_part,
+        Setting::All => case.asks_part || case.breaks(&[Rule::Fields]),
+        Setting::Grace(_) => case.breaks(&[Rule::Lifetime, Rule::Use]),
+        Setting::AgeSlack(_) => case.breaks(&[Rule::Age]),
+        Setting::DefaultLifetime(_) => case.breaks(&[Rule::Lifetime, Rule::Use, Rule::Ttl]),
     }
-    is_more
 }
 
-impl Allowance {
-    // Lets it pass by those settings, and tells whether they let less pass before.
-    fn allow(&self, settings: &mut Settings) -> bool {
-        let slack = settings.slack;
-        let allowed = &mut settings.allowed;
-        match self {
-            Allowance::Slack(seconds) => raise(&mut settings.slack, *seconds),
-            Allowance::Unmarked => {
-                let is_new = settings.unmarked != UnmarkedReplies::Allow;
-                settings.unmarked = UnmarkedReplies::Allow;
-                is_new
-            }
-            Allowance::AddedFields => raise(&mut allowed.added_fields, true),
-            Allowance::JoinedLines => raise(&mut allowed.joined_lines, true),
-            Allowance::Ranges => raise(&mut allowed.ranges, true),
-            Allowance::All => {
-                let fields = raise(&mut allowed.added_fields, true);
-                let lines = raise(&mut allowed.joined_lines, true);
-                raise(&mut allowed.ranges, true) || lines || fields
-            }
-            Allowance::Grace(seconds) => raise(&mut allowed.grace, Some(*seconds)),
-            Allowance::AgeSlack(seconds) => slack < *seconds
-                && raise(&mut allowed.age_slack, *seconds),
-            Allowance::DefaultLifetime(seconds) => raise(
-                &mut allowed.default_lifetime,
-                Some(*seconds),
-            ),
-            Allowance::InferredMarks => raise(&mut allowed.inferred_marks, true),
-        }
+// Whether a setting lets pass what that does, if it is one, so that what is right with that is right with it, too.
+fn lets_pass(setting: Setting, less: Option<Setting>) -> bool {
+    let Some(less) = less else {
+        return false;
+    };
+    match (setting, less) {
+        (Setting::All, Setting::AddedFields | Setting::JoinedLines | Setting::Ranges) => true,
+        (Setting::Grace(more), Setting::Grace(less))
+        | (Setting::AgeSlack(more), Setting::AgeSlack(less))
+        | (Setting::DefaultLifetime(more), Setting::DefaultLifetime(less)) => less <= more,
+        _ => false,
     }
+}
 
-    // Whether it may make that reply right, so that it is tried.
-    fn serves(&self, case: &WrongCase<'_>, wrong: &Wrong<'_>) -> bool {
-        match self {
-            Allowance::Slack(_) => case.breaks(&[Rule::Lifetime, Rule::Use, Rule::Age, Rule::Ttl]),
-            Allowance::Unmarked | Allowance::InferredMarks => case.reason == Reason::Unmarked,
-            Allowance::AddedFields => case.breaks(&[Rule::Fields]),
-            Allowance::JoinedLines => case.breaks(&[Rule::Fields]) && case.may_be_joined(wrong),
-            Allowance::Ranges => case.asks_part,
-            Allowance::All => case.asks_part || case.breaks(&[Rule::Fields]),
-            Allowance::Grace(_) => case.breaks(&[Rule::Lifetime, Rule::Use]),
-            Allowance::AgeSlack(_) => case.breaks(&[Rule::Age]),
-            Allowance::DefaultLifetime(_) => case.breaks(&[Rule::Lifetime, Rule::Use, Rule::Ttl]),
-        }
+// The words by which a setting is asked for.
+fn options(alloc: Global, setting: Setting) -> Page {
+    let (option, seconds) = setting.named();
+    let mut page = Page::new(alloc);
+    page.words(option);
+    if let Some(seconds) = seconds {
+        page.count(" ", seconds, "");
     }
-
-    // Whether it lets pass what that does, if it is something, so that what is right with that is right with it, too.
-    fn lets_pass(&self, less: Option<Allowance>) -> bool {
-        let Some(less) = less else {
-            return false;
-        };
-        match (*self, less) {
-            (Allowance::All, Allowance::AddedFields | Allowance::JoinedLines | Allowance::Ranges) =>
-                true,
-            (Allowance::Grace(more), Allowance::Grace(less))
-            | (Allowance::AgeSlack(more), Allowance::AgeSlack(less))
-            | (Allowance::DefaultLifetime(more), Allowance::DefaultLifetime(less)) => less <= more,
-            _ => false,
-        }
-    }
-
-    // The words by which it is asked for.
-    fn options(&self, alloc: Global) -> Page {
-        let (option, seconds) = match self {
-            Allowance::Slack(seconds) => ("--slack", Some(*seconds)),
-            Allowance::Grace(seconds) => ("--grace", Some(*seconds)),
-            Allowance::AgeSlack(seconds) => ("--age-slack", Some(*seconds)),
-            Allowance::DefaultLifetime(seconds) => ("--default-ttl", Some(*seconds)),
-            Allowance::Unmarked => ("without --errors-only", None),
-            Allowance::AddedFields => ("--allow added-fields", None),
-            Allowance::JoinedLines => ("--allow joined-lines", None),
-            Allowance::Ranges => ("--allow ranges", None),
-            Allowance::All => ("--allow all", None),
-            Allowance::InferredMarks => ("--infer-marks", None),
-        };
-        let mut page = Page::new(alloc);
-        page.words(option);
-        if let Some(seconds) = seconds {
-            page.count(" ", u64::from(seconds), "");
-        }
-        page
-    }
+    page
 }
 
 // How many replies are wrong where something more is let pass.
 #[derive(Drop)]
 struct FixedTry {
-    allowance: Allowance,
+    setting: Setting,
     settings: Settings,
     wrong: u64,
 }
@@ -282,11 +215,12 @@ impl Tries {
     /// What is tried beside those settings.
     pub(crate) fn new(alloc: Global, given: Settings) -> Result<Self, AllocError> {
         let mut fixed = Vec::new(alloc);
-        for allowance in allowances(given.slack) {
-            let mut settings = given.copy(alloc)?;
-            if allowance.allow(&mut settings) {
+        for setting in settings_beside(given.slack) {
+            if setting.is_more(&given) {
+                let mut settings = given.copy(alloc)?;
+                setting.allow(&mut settings);
                 fixed.push(FixedTry {
-                    allowance,
+                    setting,
                     settings,
                     wrong: 0,
                 })?;
@@ -317,12 +251,12 @@ impl Tries {
         }
         let mut right = None;
         for fixed in &mut self.fixed {
-            let allowance = fixed.allowance;
-            if allowance.lets_pass(right)
-                || allowance.serves(&case, wrong)
+            let setting = fixed.setting;
+            if lets_pass(setting, right)
+                || serves(setting, &case, wrong)
                     && judged.found_with(&fixed.settings)? == Finding::Right
             {
-                right = Some(allowance);
+                right = Some(setting);
             } else {
                 fixed.wrong = fixed.wrong.saturating_add(1);
             }
@@ -343,7 +277,7 @@ impl Tries {
         for fixed in self.fixed.iter() {
             if fixed.wrong < wrong {
                 helpful.push(Helpful {
-                    options: fixed.allowance.options(self.ignoring.alloc).into_text()?,
+                    options: options(self.ignoring.alloc, fixed.setting).into_text()?,
                     wrong: fixed.wrong,
                     is_exact: true,
                 })?;

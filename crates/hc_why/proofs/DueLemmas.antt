@@ -13,7 +13,7 @@ use Rattle.hc_history.specs.Claims.{Claim}
 use Rattle.hc_history.specs.Forwarded.{asks_the_same, carries, carries_response}
 use Rattle.hc_history.specs.Windows.{is_forward_of, may_be_for}
 use Rattle.hc_why.specs.Due.{DueAt, Told, due_by, is_asked_for, is_in_window, none_told, told_after, told_by, told_by_all, told_in_window}
-use Rattle.hc_why.specs.Remembered.{EndSeen, end_by, ends_of, ends_with, name_behind}
+use Rattle.hc_past.specs.Remembered.{EndSeen, end_by, ends_of, ends_with, name_behind}
 
 pub told_append : (claim : Claim) (told : Told) (one other : List EndSeen)
     → told_by_all claim told (one ++ other) ≡ told_by_all claim (told_by_all claim told one) other

@@ -1,6 +1,5 @@
 pub mod DueLemmas
 pub mod ExplainingLemmas
-pub mod NamingLemmas
-pub mod PastLemmas
+pub mod ListingLemmas
 pub mod SeekingLemmas
 pub mod ValidatorLemmas

@@ -12,7 +12,7 @@ use Rattle.hc_why.specs.declared.found.FoundReply.{FoundReply}
 use Rattle.hc_why.specs.declared.seeking.ReplyAt.{ReplyAt}
 use Rattle.hc_why.specs.Found.{finding_of, position_of}
 use Rattle.hc_why.specs.Seeking.{HasFoundAmong, IsFoundAt, IsOfPlace, reason_in, wrong_at}
-use Rattle.hc_why.specs.Standing.{answered, exchange_at, newest_exchange, stands_at}
+use Rattle.hc_past.specs.Standing.{answered, exchange_at, newest_exchange, stands_at}
 use Rattle.hc_transcript.specs.Items.{Item}
 use Rattle.hc_transcript.specs.History.{next_position}
 

@@ -24,10 +24,10 @@ use Rattle.hc_history.specs.Seen.{Live, live_at, live_of, live_up_to, remaining}
 use Rattle.hc_history.specs.States.{begun_to, kept_answered_to, state_after, state_answered, state_at, state_begun}
 use Rattle.hc_history.proofs.StateLemmas.{map_is_some, place_of}
 use Rattle.hc_index.specs.Lists.{state_in}
-use Rattle.hc_why.specs.declared.shortfalls.Nearest.{Nearest}
+use Rattle.hc_past.specs.declared.shortfalls.Nearest.{Nearest}
 use Rattle.hc_why.specs.Due.{is_end_at, place_among}
-use Rattle.hc_why.specs.Naming.{IsNamed}
-use Rattle.hc_why.specs.Remembered.{EndSeen, end_by, ends_of, ends_with, name_behind}
+use Rattle.hc_past.specs.Naming.{IsNamed}
+use Rattle.hc_past.specs.Remembered.{EndSeen, end_by, ends_of, ends_with, name_behind}
 
 -- ---- an end stands there
 
@@ -273,26 +273,26 @@ among : (target : Target) (ends : List EndSeen) (validated : Option ℕ) → ((p
 among target ends None stands = refl
 among target ends (Some place) stands = taken (list_any (is_end_at target place) ends) (Some place) None (stands place refl)
 
-pub validator_is : (claim : Claim) (path : List ℕ) (h : List Item) (nearest : Nearest) → claim.target.path ≡ path → IsNamed claim h nearest
+pub validator_is : (claim : Claim) (path : List ℕ) (h : List Item) (since : ℕ) (nearest : Nearest) → claim.target.path ≡ path → IsNamed claim h since nearest
     → place_among claim.target nearest.state.now.validated_at (ends_of path h) ≡ nearest.state.now.validated_at
-validator_is claim path h nearest of_path named =
+validator_is claim path h since nearest of_path named =
     let c = named.candidate in
-    let kept = named.is_candidate.kept in
-    let place = place_of c.position h kept named.is_candidate.is_its_state in
-    let found = left_up_to claim.target c.position (length h) h kept named.is_candidate.is_its_state named.is_candidate.is_of_target place.0 place.1 in
+    let kept = named.is_furthest.is_candidate.kept in
+    let place = place_of c.position h kept named.is_furthest.is_candidate.is_its_state in
+    let found = left_up_to claim.target c.position (length h) h kept named.is_furthest.is_candidate.is_its_state named.is_furthest.is_candidate.is_of_target place.0 place.1 in
     let left : state_in c.position (live_of claim.target h) ≡ Some (remaining kept.state) = ap (option_map (λ (live : Live). live.state)) found in
     let state_is : remaining kept.state ≡ nearest.state.now = unwrapped (remaining kept.state) nearest.state.now (sym left ∙ named.is_that.state) in
     among claim.target (ends_of path h) nearest.state.now.validated_at
     (λ p is. elim (remaining_validated kept.state) [
       | inl never ↦ absurd (
           let none : None ≡ Some p = sym never ∙ ap (λ (s : Stored). s.validated_at) state_is ∙ is in cc)
-      | inr same ↦ validated_stands path claim.target c.position p h kept of_path named.is_candidate.is_its_state named.is_candidate.is_of_target
+      | inr same ↦ validated_stands path claim.target c.position p h kept of_path named.is_furthest.is_candidate.is_its_state named.is_furthest.is_candidate.is_of_target
           (sym same ∙ ap (λ (s : Stored). s.validated_at) state_is ∙ is)
     ])
 
-pub validator_told : (claim : Claim) (path : List ℕ) (h : List Item) (nearest : Option Nearest) (ends : List EndSeen) (told : Option ℕ) → claim.target.path ≡ path
-    → ends ≡ ends_of path h → IfSome nearest (IsNamed claim h) → IfSome nearest (λ n. told ≡ place_among claim.target n.state.now.validated_at ends)
+pub validator_told : (claim : Claim) (path : List ℕ) (h : List Item) (since : ℕ) (nearest : Option Nearest) (ends : List EndSeen) (told : Option ℕ) → claim.target.path ≡ path
+    → ends ≡ ends_of path h → IfSome nearest (IsNamed claim h since) → IfSome nearest (λ n. told ≡ place_among claim.target n.state.now.validated_at ends)
     → IfSome nearest (λ n. told ≡ n.state.now.validated_at)
-validator_told claim path h None ends told of_path all named is = tt
-validator_told claim path h (Some nearest) ends told of_path all named is =
-    is ∙ ap (place_among claim.target nearest.state.now.validated_at) all ∙ validator_is claim path h nearest of_path named
+validator_told claim path h since None ends told of_path all named is = tt
+validator_told claim path h since (Some nearest) ends told of_path all named is =
+    is ∙ ap (place_among claim.target nearest.state.now.validated_at) all ∙ validator_is claim path h since nearest of_path named

@@ -10,14 +10,14 @@ use Rattle.hc_transcript.specs.Records.{told_in}
 use Rattle.hc_transcript.specs.Items.{Forward, Item, OriginFailure, OriginResponse}
 use Rattle.hc_transcript.specs.History.{cause_of, forward_of, next_position}
 use Rattle.hc_history.specs.Claims.{Claim}
-use Rattle.hc_history.specs.Forwarded.{asks_the_same, carries, is_carried}
+use Rattle.hc_history.specs.Forwarded.{asks_the_same, is_carried}
 use Rattle.hc_history.specs.Windows.{is_error, is_failure, may_be_for}
 use Rattle.hc_why.specs.declared.changes.Due.{Due}
 use Rattle.hc_why.specs.declared.changes.Due.TheVariants as dues
 use Rattle.hc_why.specs.declared.changes.Ends.{Ends}
-use Rattle.hc_why.specs.declared.past.End.{End}
-use Rattle.hc_why.specs.declared.shortfalls.Nearest.{Nearest}
-use Rattle.hc_why.specs.Remembered.{EndSeen, name_behind}
+use Rattle.hc_past.specs.declared.past.End.{End}
+use Rattle.hc_past.specs.declared.shortfalls.Nearest.{Nearest}
+use Rattle.hc_past.specs.Remembered.{EndSeen, name_behind, carries_answer, is_error_by_status, may_answer}
 
 -- ---- by the history
 
@@ -77,24 +77,9 @@ told_in_window claim h = record {
 
 -- ---- by the ends that are remembered, the oldest first
 
--- whether it is an error of the origin
-abbrev pub is_error_by_status : Option ℕ → Bool
-is_error_by_status None = false
-is_error_by_status (Some status) = is_error_status status
-
 abbrev pub is_failure_by_status : Option ℕ → Bool
 is_failure_by_status None = true
 is_failure_by_status (Some status) = false
-
--- whether its forward was made for the claim's exchange, as far as that is told
-abbrev pub may_answer : Claim → EndSeen → Bool
-may_answer claim end = may_be_for (told_in claim.format end.cause) claim.exchange
-
--- whether the reply carries what is known of an answer
-abbrev pub carries_answer : Claim → List ℕ → Option ℕ → Option (List ℕ) → Bool
-carries_answer claim method None body = false
-carries_answer claim method (Some status) None = false
-carries_answer claim method (Some status) (Some body) = carries claim method status body
 
 -- what one of the window makes of what is told
 abbrev pub told_by : Claim → Told → EndSeen → Told

@@ -3,6 +3,7 @@ use Rattle.std.specs.Prelude.{◌≡◌, ℕ, true, Option, Some, None, is_some}
 use Rattle.hc_history.specs.declared.verdicts.Finding.{Finding}
 use Rattle.hc_history.specs.declared.verdicts.Finding.TheVariants.{Right, Wrong}
 use Rattle.hc_history.specs.declared.wrong.WrongReply.{WrongReply}
+use Rattle.hc_why.specs.declared.explaining.Way.{Way}
 use Rattle.hc_why.specs.declared.found.FoundReply.{FoundReply}
 
 -- where it stands
@@ -12,6 +13,10 @@ position_of found = found.position
 -- that it is right, or why it is wrong
 abbrev pub finding_of : FoundReply → Finding
 finding_of found = found.finding
+
+-- the way that it went
+abbrev pub way_found : FoundReply → Way
+way_found found = found.way
 
 -- the wrong reply that a reply of that position is, by what is found of it: none where it is right
 abbrev pub wrong_in : ℕ → Finding → Option WrongReply

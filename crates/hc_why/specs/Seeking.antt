@@ -8,7 +8,7 @@ use Rattle.hc_history.specs.declared.wrong.WrongReply.{WrongReply}
 use Rattle.hc_why.specs.declared.first.FirstWrong.{FirstWrong}
 use Rattle.hc_why.specs.declared.seeking.ReplyAt.{ReplyAt}
 use Rattle.hc_why.specs.Found.{HasFoundOf, finding_of, position_of}
-use Rattle.hc_why.specs.Standing.{stands_at}
+use Rattle.hc_past.specs.Standing.{stands_at}
 
 -- ---- the first wrong reply
 

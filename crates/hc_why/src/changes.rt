@@ -1,24 +1,25 @@
 //! The ends of forwards that are told of with a reply: what they made of the response that is named, and what was due in its
 //! place.
 
-ghost use Rattle.std.specs.Prelude.{◌≡◌, ◌&&◌, IfOk, OnOk, map, option_copied, true, if◌then◌else◌};
+ghost use Rattle.std.specs.Prelude.{◌≡◌, ◌&&◌, IfOk, IfSome, OnOk, Option, Some, map, option_copied, true, if◌then◌else◌};
 ghost use Rattle.hc_head.specs.Targets.{same_target};
-ghost use Rattle.hc_history.specs.Forwarded.{asks_the_same};
-ghost use Rattle.hc_why.specs.Due.{due_at, due_by, is_after_error, is_error_by_status, may_answer, name_of_end, none_told, place_among, place_of_end, told_after, told_by, told_by_all, told_of, validated_in};
-ghost use Rattle.hc_why.specs.Remembered.{end_seen};
+ghost use Rattle.hc_history.specs.Claims.{Claim};
+ghost use Rattle.hc_why.specs.Demanding.{are_safe, has_unselected, is_by_safe, is_unselected};
+ghost use Rattle.hc_why.specs.Due.{due_at, due_by, is_after_error, name_of_end, none_told, place_among, place_of_end, told_after, told_by, told_by_all, told_of, validated_in};
+ghost use Rattle.hc_why.specs.Listing.{IsNotAbout, Lists, is_of, is_since_it, is_unstored};
+ghost use Rattle.hc_past.specs.Remembered.{end_seen};
+ghost use Rattle.hc_past.specs.declared.shortfalls.Nearest.{Nearest};
 
 use crate::explaining::Explanation;
-use crate::past::{End, Heads, copied_request};
-use crate::shortfalls::Nearest;
-use crate::window::asks_the_same;
-use crate::wrongs::Why;
-use hc_fields::{END_OF_MOMENTS, Fields, decimal, is_among};
-use hc_gaps::{Against, Demand, Newest, Rule, agree, first_against};
-use hc_head::{StatusCode, Target, is_error_status, is_head};
+use hc_fields::{END_OF_MOMENTS, Fields, is_among};
+use hc_gaps::{Against, agree, first_against};
+use hc_head::{StatusCode, Target, is_error_status};
 use hc_history::{ReplyClaim, passed};
+use hc_past::{End, Heads, Nearest, Why, copied_request};
 use hc_rules::selects;
 use hc_shown::Teller;
 use hc_update::{Stored, invalidates};
+use hc_use::{Demand, Newest, Rule};
 use std::alloc::{AllocError, Global};
 
 /// What an unsafe method invalidated isn't given.
@@ -38,7 +39,7 @@ pub(crate) const INVALIDATED_BY_SAFE: Demand = Demand {
 
 /// HEAD changes nothing that is stored.
 const FRESHENED_BY_HEAD: Demand = Demand {
-    sections: "no RFC (RFC 9111 section 4.3.5 asks that a 200 to HEAD updates what is stored), but this auditor's stricter rule",
+    sections: "no RFC (RFC 9111 section 4.3.5 asks that a 200 to HEAD updates what is stored, unless it tells another length), but this auditor's stricter rule",
     words: "a reply has the stored response's fields as the latest 304 about it left them, whatever a HEAD brought",
 };
 
@@ -72,6 +73,8 @@ pub struct Ends<'a> {
     pub sources: Vec<&'a End>,
     /// Those of the target that may not be stored, where that is what is wrong.
     pub unstored: Newest<&'a End>,
+    /// The latest of those that the reply gives, named or not.
+    pub given: Option<&'a End>,
     /// Those in the window, where the reply went forward.
     pub window: Newest<&'a End>,
     /// Those in it of the same path under another host that the reply would carry.
@@ -102,6 +105,7 @@ impl Drop for Ends<'_> {
         let Ends {
             sources,
             unstored,
+            given: _,
             window,
             near,
             carried: _,
@@ -128,7 +132,9 @@ fn against<'a>(
     alloc: Global,
     nearest: &Nearest<'_>,
     end: &'a End,
-) -> Result<Option<NotAbout<'a>>, AllocError> {
+) -> Result<Option<NotAbout<'a>>, AllocError>
+    ensures { (claim : Claim) → is_of claim end.now ≡ true → IfOk result (λ found. IfSome found (IsNotAbout claim nearest.now)) }
+{
     let Some(heads) = &end.heads else {
         return Ok(None);
     };
@@ -160,21 +166,12 @@ fn has_no_other(name: &[u8], received: &Fields, stored: &Fields) -> bool {
     }
 }
 
-// Whether a response tells the length of the body of what is stored, or tells none.
-fn has_no_other_length(received: &Fields, state: &Stored) -> bool {
-    match received.only(b"content-length") {
-        Some(length) => decimal(length) == Some(state.body.len() as u64),
-        None => !received.contains(b"content-length"),
-    }
-}
-
-// Whether a 200 to HEAD is about a stored response: this might have been chosen for its forward, and has the validators and the
-// length that it tells (RFC 9111 section 4.3.5).
+// Whether a 200 to HEAD is about a stored response: this might have been chosen for its forward, and has the validators that it
+// tells (RFC 9111 section 4.3.5). A length that it tells isn't kept of a head that was read.
 fn may_update(alloc: Global, state: &Stored, heads: &Heads) -> Result<bool, AllocError> {
     let received = &heads.response.fields;
     let is_same = has_no_other(b"etag", received, &state.fields)
-        && has_no_other(b"last-modified", received, &state.fields)
-        && has_no_other_length(received, state);
+        && has_no_other(b"last-modified", received, &state.fields);
     if !is_same {
         return Ok(false);
     }
@@ -238,11 +235,13 @@ impl Due<'_> {
 impl<'a> Ends<'a> {
     /// None.
     pub(crate) fn none(alloc: Global) -> Self
-        ensures { told_of result ≡ none_told }
+        ensures told { told_of result ≡ none_told }
+        ensures lists { (claim : Claim) (nearest : Option Nearest) → Lists claim nearest result }
     {
         Ends {
             sources: Vec::new(alloc),
             unstored: Newest::new(alloc),
+            given: None,
             window: Newest::new(alloc),
             near: Newest::new(alloc),
             carried: None,
@@ -262,6 +261,7 @@ impl<'a> Ends<'a> {
         ensures told { IfOk result (λ ends. told_of ends ≡ told_by_all known.now.claim none_told (map end_seen known.now.past.now.ends.items)) }
         ensures validator { IfOk result (λ ends. place_of_end (option_copied ends.validator)
             ≡ place_among known.now.claim.target (validated_in known.now.nearest) (map end_seen known.now.past.now.ends.items)) }
+        ensures lists { IfOk result (Lists known.now.claim known.now.nearest) }
     {
         let mut ends = Ends::none(known.alloc);
         ends.fill(known)?;
@@ -271,7 +271,8 @@ impl<'a> Ends<'a> {
 
     // Takes in all that are remembered.
     fn fill(&mut self, known: &Explanation<'a>) -> Result<(), AllocError>
-        ensures { OnOk result (told_of self.new ≡ told_by_all known.now.claim (told_of self.old) (map end_seen known.now.past.now.ends.items)) }
+        ensures told { OnOk result (told_of self.new ≡ told_by_all known.now.claim (told_of self.old) (map end_seen known.now.past.now.ends.items)) }
+        ensures lists { Lists known.now.claim known.now.nearest self.old → OnOk result (Lists known.now.claim known.now.nearest self.new) }
     {
         let (older, newer) = known.past.ends.as_slices();
         self.take_all(known, older)?;
@@ -280,7 +281,8 @@ impl<'a> Ends<'a> {
 
     // Takes in these.
     fn take_all(&mut self, known: &Explanation<'_>, ends: &'a [End]) -> Result<(), AllocError>
-        ensures { OnOk result (told_of self.new ≡ told_by_all known.now.claim (told_of self.old) (map end_seen ends.now)) }
+        ensures told { OnOk result (told_of self.new ≡ told_by_all known.now.claim (told_of self.old) (map end_seen ends.now)) }
+        ensures lists { Lists known.now.claim known.now.nearest self.old → OnOk result (Lists known.now.claim known.now.nearest self.new) }
     {
         'ends: for end in ends {
             self.take(known, end)?;
@@ -290,7 +292,8 @@ impl<'a> Ends<'a> {
 
     // Takes in the next one.
     fn take(&mut self, known: &Explanation<'_>, end: &'a End) -> Result<(), AllocError>
-        ensures { OnOk result (told_of self.new ≡ told_after known.now.claim (told_of self.old) (end_seen end.now)) }
+        ensures told { OnOk result (told_of self.new ≡ told_after known.now.claim (told_of self.old) (end_seen end.now)) }
+        ensures lists { Lists known.now.claim known.now.nearest self.old → OnOk result (Lists known.now.claim known.now.nearest self.new) }
     {
         if !end.is_of(known.claim.target) {
             return self.take_near(known, end);
@@ -303,7 +306,8 @@ impl<'a> Ends<'a> {
 
     // Takes in one of another target, where the reply is wrong as one that went forward, and would carry it.
     fn take_near(&mut self, known: &Explanation<'_>, end: &'a End) -> Result<(), AllocError>
-        ensures { OnOk result (told_of self.new ≡ told_of self.old) }
+        ensures told { OnOk result (told_of self.new ≡ told_of self.old) }
+        ensures lists { Lists known.now.claim known.now.nearest self.old → OnOk result (Lists known.now.claim known.now.nearest self.new) }
     {
         match known.why {
             Some(Why::NotForwarded(_)) if end.is_near(&known.claim) => self.near.push(end),
@@ -313,7 +317,8 @@ impl<'a> Ends<'a> {
 
     // Takes in one of the target: one of the window, or whether the reply gives one from before that.
     fn take_place(&mut self, claim: &ReplyClaim<'_>, end: &'a End)
-        ensures { same_target end.now.target claim.now.target ≡ true → told_of self.new ≡ told_after claim.now (told_of self.old) (end_seen end.now) }
+        ensures told { same_target end.now.target claim.now.target ≡ true → told_of self.new ≡ told_after claim.now (told_of self.old) (end_seen end.now) }
+        ensures lists { (nearest : Option Nearest) → Lists claim.now nearest self.old → Lists claim.now nearest self.new }
     {
         if claim.since < end.named.position {
             self.take_in_window(claim, end);
@@ -324,7 +329,8 @@ impl<'a> Ends<'a> {
 
     // Takes in one of the target in the window: what the reply carries, an error or a failure, and what is due.
     fn take_in_window(&mut self, claim: &ReplyClaim<'_>, end: &'a End)
-        ensures { told_of self.new ≡ told_by claim.now (told_of self.old) (end_seen end.now) }
+        ensures told { told_of self.new ≡ told_by claim.now (told_of self.old) (end_seen end.now) }
+        ensures lists { (nearest : Option Nearest) → Lists claim.now nearest self.old → Lists claim.now nearest self.new }
     {
         self.carried = latest(end.is_carried(claim), end, self.carried);
         self.error = latest(end.is_error(), end, self.error);
@@ -334,7 +340,8 @@ impl<'a> Ends<'a> {
 
     // Takes in the record of a response that is named.
     fn take_source(&mut self, known: &Explanation<'_>, end: &'a End) -> Result<(), AllocError>
-        ensures { OnOk result (told_of self.new ≡ told_of self.old) }
+        ensures told { OnOk result (told_of self.new ≡ told_of self.old) }
+        ensures lists { Lists known.now.claim known.now.nearest self.old → OnOk result (Lists known.now.claim known.now.nearest self.new) }
     {
         if !known.reaches.names(end.named.position) {
             return Ok(());
@@ -345,23 +352,39 @@ impl<'a> Ends<'a> {
 
     // Takes in one of the target, if the reply is wrong by it.
     fn take_wrong(&mut self, known: &Explanation<'_>, end: &'a End) -> Result<(), AllocError>
-        ensures { OnOk result (told_of self.new ≡ told_of self.old) }
+        ensures told { OnOk result (told_of self.new ≡ told_of self.old) }
+        ensures lists { is_of known.now.claim end.now ≡ true → Lists known.now.claim known.now.nearest self.old → OnOk result (Lists known.now.claim known.now.nearest self.new) }
     {
         let is_in_window = known.claim.since < end.named.position;
         let is_unstored = end.forbids.is_some();
         match known.why {
-            Some(Why::NoResponse(_)) if is_unstored => self.unstored.push(end),
-            Some(Why::NotCollapsible) if is_unstored && is_in_window => self.unstored.push(end),
+            Some(Why::NoResponse(_)) if is_unstored => self.take_unstored(&known.claim, end),
+            Some(Why::NotCollapsible) if is_unstored && is_in_window => {
+                self.take_unstored(&known.claim, end)
+            }
             Some(Why::NotForwarded(_)) if is_in_window => self.window.push(end),
             _ => Ok(()),
         }
+    }
+
+    // Takes in one of the target that may not be stored.
+    fn take_unstored(&mut self, claim: &ReplyClaim<'_>, end: &'a End) -> Result<(), AllocError>
+        ensures told { OnOk result (told_of self.new ≡ told_of self.old) }
+        ensures lists { (nearest : Option Nearest) → is_unstored claim.now end.now ≡ true → Lists claim.now nearest self.old
+            → OnOk result (Lists claim.now nearest self.new) }
+    {
+        if end.is_given(claim) {
+            self.given = Some(end);
+        }
+        self.unstored.push(end)
     }
 
     // Takes in what one of the target made of the response that is named, or might have, since it is as it is: what freshened it;
     // what invalidated it, where no 304 before that might have helped; a 200 to HEAD that is about it; and a 304 that isn't. Such
     // a one might have been about it in the window, but for those before one that was; or, where it is invalidated, at any time.
     fn take_change(&mut self, known: &Explanation<'_>, end: &'a End) -> Result<(), AllocError>
-        ensures { OnOk result (told_of self.new ≡ told_of self.old) }
+        ensures told { OnOk result (told_of self.new ≡ told_of self.old) }
+        ensures lists { is_of known.now.claim end.now ≡ true → Lists known.now.claim known.now.nearest self.old → OnOk result (Lists known.now.claim known.now.nearest self.new) }
     {
         let Some(nearest) = &known.nearest else {
             return Ok(());
@@ -391,7 +414,9 @@ impl<'a> Ends<'a> {
         end: &'a End,
         is_since: bool,
     ) -> Result<(), AllocError>
-        ensures { OnOk result (told_of self.new ≡ told_of self.old) }
+        ensures told { OnOk result (told_of self.new ≡ told_of self.old) }
+        ensures lists { (claim : Claim) → is_of claim end.now ≡ true → is_since ≡ is_since_it nearest.now end.now
+            → Lists claim (Some nearest.now) self.old → OnOk result (Lists claim (Some nearest.now) self.new) }
     {
         if !is_since {
             return Ok(());
@@ -413,47 +438,37 @@ impl<'a> Ends<'a> {
     }
 
     /// Whether what invalidated the response are methods that are registered as safe.
-    pub(crate) fn is_by_safe(&self) -> bool {
-        for end in self.invalidators.named.iter() {
-            if !is_among(&SAFE, end.method.as_slice()) {
-                return false;
-            }
-        }
-        !self.invalidators.is_empty() && self.invalidators.older == 0
+    pub(crate) fn is_by_safe(&self) -> bool
+        ensures { result ≡ is_by_safe self.now }
+    {
+        let invalidators = &self.invalidators;
+        !invalidators.is_empty()
+            && invalidators.older == 0
+            && are_safe(invalidators.named.as_slice())
     }
 
     /// Whether a 304 isn't about the response by its Vary alone.
-    pub(crate) fn has_unselected(&self) -> bool {
-        for not_about in self.not_about.named.iter() {
-            if not_about.agrees && matches!(not_about.against, Against::Unselected) {
-                return true;
-            }
-        }
-        false
+    pub(crate) fn has_unselected(&self) -> bool
+        ensures { result ≡ has_unselected self.now }
+    {
+        self.not_about.named.iter().any(|one| one.is_unselected())
     }
 }
 
-impl End {
-    // Whether its forward may have been made for the request of the reply that claims that, and asks the same.
-    fn is_asked_for(&self, claim: &ReplyClaim<'_>) -> bool
-        ensures { result ≡ (may_answer claim.now (end_seen self.now) && asks_the_same claim.now self.now.method) }
-    {
-        self.may_answer(claim) && asks_the_same(claim, &self.method)
-    }
+// Whether those answer methods that are registered as safe.
+fn are_safe(ends: &[&End]) -> bool
+    ensures { result ≡ are_safe ends.now }
+{
+    ends.iter()
+        .all(|end| is_among(&SAFE, end.method.as_slice()))
+}
 
-    // Whether it is an error of the origin.
-    fn is_error(&self) -> bool
-        ensures { result ≡ is_error_by_status self.now.status }
+impl NotAbout<'_> {
+    // Whether Vary alone keeps it from being about the response.
+    fn is_unselected(&self) -> bool
+        ensures { result ≡ is_unselected self.now }
     {
-        match self.status {
-            Some(status) => is_error_status(status),
-            None => false,
-        }
-    }
-
-    // Whether it is a 200 to HEAD.
-    fn is_ok_to_head(&self) -> bool {
-        is_head(&self.method) && self.status == Some(StatusCode::OK)
+        self.agrees && matches!(self.against, Against::Unselected)
     }
 }
 
@@ -492,7 +507,7 @@ impl<'a> Explanation<'a> {
 
 impl Explanation<'_> {
     // Whether the response that is named would keep the rule that it breaks, and the reply have its fields, had that answer
-    // freshened it; a 200 to HEAD validates nothing.
+    // freshened it; a 200 to HEAD validates nothing, and with it all rules are to be kept.
     fn helps(&self, end: &End) -> Result<bool, AllocError> {
         let (Some(nearest), Some(heads), Some(sent)) = (&self.nearest, &end.heads, end.sent) else {
             return Ok(false);
@@ -510,7 +525,12 @@ impl Explanation<'_> {
             state.invalid = nearest.state.invalid;
             state.validated_at = nearest.state.validated_at;
         }
-        let wanted = rule.reason().number().max(Rule::Fields.reason().number());
+        let least = if end.is_ok_to_head() {
+            Rule::Ttl
+        } else {
+            Rule::Fields
+        };
+        let wanted = rule.reason().number().max(least.reason().number());
         let claim = &self.claim;
         Ok(wanted <= passed(self.alloc, claim, claim.target, &state)?)
     }

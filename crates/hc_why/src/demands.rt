@@ -1,25 +1,21 @@
 //! What is asked of a reply that is wrong.
 
-ghost use Rattle.std.specs.Prelude.{◌≡◌};
+ghost use Rattle.std.specs.Prelude.{◌≡◌, option_copied};
 ghost use Rattle.std.specs.Option.{option_map};
 ghost use Rattle.hc_gaps.specs.Demanding.{first_in, renewed_in};
-ghost use Rattle.hc_why.specs.Demanding.{demanded_sections};
+ghost use Rattle.hc_why.specs.Demanding.{IsAskedOf, demanded_sections, is_for_it};
 
 use crate::changes::{INVALIDATED, INVALIDATED_BY_SAFE};
 use crate::explaining::Explanation;
-use crate::past::Heads;
-use crate::shortfalls::{Nearest, Shortfall};
-use crate::unstored::Unstored;
-use crate::wrongs::Why;
 use hc_fields::Fields;
-use hc_gaps::{
-    Demand, FieldsOrigin, Forbids, NO_HIT, PRIVATE_FIELDS, STORED_ANSWER, UNRECORDED, leaves_out,
-};
+use hc_gaps::{FieldsOrigin, leaves_out};
 use hc_head::{StatusCode, is_head};
 use hc_history::{Finding, Reason};
+use hc_past::{Heads, Nearest, Shortfall, Unstored, Why};
 use hc_rules::selects;
 use hc_shown::RecordName;
 use hc_transcript::ToldCause;
+use hc_use::{Demand, Forbids, NO_HIT, PRIVATE_FIELDS, STORED_ANSWER, UNRECORDED};
 use std::alloc::AllocError;
 
 /// A 304 is given to no later request.
@@ -108,7 +104,7 @@ impl Explanation<'_> {
     // What is asked of a hit for which nothing is stored: by what forbids to store the response that it gives, or else the
     // latest; of a 304 beside its status and method.
     fn demand_of_storing(&self) -> Demand {
-        let Some(end) = self.given_unstored().or(self.ends.unstored.last().copied()) else {
+        let Some(end) = self.ends.given.or(self.ends.unstored.last().copied()) else {
             return UNRECORDED;
         };
         let (Some(mut forbids), Some(heads)) = (end.forbids, &end.heads) else {
@@ -147,24 +143,29 @@ impl Explanation<'_> {
     }
 
     // What is asked by the way in which that response falls short.
-    fn demand_of(&self, nearest: &Nearest<'_>, shortfall: &Shortfall) -> Demand {
+    fn demand_of(&self, nearest: &Nearest<'_>, shortfall: &Shortfall) -> Demand
+        ensures { IsAskedOf self.now nearest.now shortfall.now result.sections.now }
+    {
         let origin = self.fields_origin(nearest);
-        shortfall.demand(&Circumstances {
+        let about = Circumstances {
             leaves_out: self.leaves_out(b"no-cache", &nearest.state.fields),
             is_after_304: self.ends.has_unselected(),
             is_after_error: self.ends.due.is_after_error(),
             is_by_safe: self.ends.is_by_safe(),
             status: self.claim.reply.head.status,
-            position: origin.position,
+            position: nearest.position,
             validator: origin.validator,
             first: origin.first,
             is_for_it: self.is_validated_for_it(nearest),
             was_validated: nearest.state.validated_at.is_some(),
-        })
+        };
+        about.demand(shortfall)
     }
 
     // Whether a 304 after the request validated that response which may have come for the request.
-    fn is_validated_for_it(&self, nearest: &Nearest<'_>) -> bool {
+    fn is_validated_for_it(&self, nearest: &Nearest<'_>) -> bool
+        ensures { result ≡ is_for_it self.now.claim nearest.now (option_copied self.now.ends.validator) }
+    {
         match self.ends.validator {
             Some(validator) => self.was_validated(nearest) && validator.may_answer(&self.claim),
             None => false,
@@ -209,23 +210,21 @@ impl<'a> Circumstances<'a> {
             first: self.first,
         }
     }
-}
 
-impl Shortfall {
-    // What is asked by it: by one thing for each rule.
-    fn demand(&self, about: &Circumstances<'_>) -> Demand
-        ensures { result.sections.now ≡ demanded_sections self.now about.now }
+    // What is asked of a response that falls short so: by one thing for each rule.
+    fn demand(&self, shortfall: &Shortfall) -> Demand
+        ensures { result.sections.now ≡ demanded_sections shortfall.now self.now }
     {
-        match self {
+        match shortfall {
             Shortfall::Asked => STORED_ANSWER,
-            Shortfall::Selected(selection) => selection.demand(about.is_after_304),
-            Shortfall::Valid if about.is_by_safe => INVALIDATED_BY_SAFE,
+            Shortfall::Selected(selection) => selection.demand(self.is_after_304),
+            Shortfall::Valid if self.is_by_safe => INVALIDATED_BY_SAFE,
             Shortfall::Valid => INVALIDATED,
-            Shortfall::Lifetime(usage) => usage.demand_of_lifetime(about.leaves_out),
-            Shortfall::Use(usage) => usage.demand_of_use(about.leaves_out, about.is_after_error),
+            Shortfall::Lifetime(usage) => usage.demand_of_lifetime(self.leaves_out),
+            Shortfall::Use(usage) => usage.demand_of_use(self.leaves_out, self.is_after_error),
             Shortfall::Body(gap) => gap.demand(),
-            Shortfall::Fields(found) => found.demand(about.status, about.fields_origin()),
-            Shortfall::Age(gap) => gap.demand(about.is_for_it, about.was_validated, about.status),
+            Shortfall::Fields(found) => found.demand(self.status, self.fields_origin()),
+            Shortfall::Age(gap) => gap.demand(self.is_for_it, self.was_validated, self.status),
             Shortfall::Ttl(gap) => gap.demand(),
         }
     }

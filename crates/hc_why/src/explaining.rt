@@ -1,28 +1,31 @@
 //! What is known of one reply, right or wrong.
 
-ghost use Rattle.std.specs.Prelude.{◌≡◌, List, map, option_copied, true, is_some, IfOk, IfSome, IsSome, OnOk};
+ghost use Rattle.std.specs.Prelude.{◌≡◌, List, None, map, option_copied, true, is_some, nat_lt, unwrap_or, IfOk, IfSome, OnOk, if◌then◌else◌};
 ghost use Rattle.hc_head.specs.declared.head.Target.{Target};
 ghost use Rattle.hc_transcript.specs.History.{exchange_of};
 ghost use Rattle.hc_transcript.specs.Items.{Item};
 ghost use Rattle.hc_history.specs.Right.{IsFinding};
 ghost use Rattle.hc_history.specs.Seen.{IsSeenAs};
 ghost use Rattle.hc_audit.specs.Hearing.{IsReplyBehind};
-ghost use Rattle.hc_gaps.specs.Stale.{settings_with};
+ghost use Rattle.hc_use.specs.Stale.{settings_with};
 ghost use Rattle.hc_why.specs.Due.{none_told, place_among, place_of_end, told_by_all, told_of};
-ghost use Rattle.hc_why.specs.Explaining.{Explains, Leaves, TellsValidator, TellsWindow};
-ghost use Rattle.hc_why.specs.Remembered.{IsPastOf, end_seen};
+ghost use Rattle.hc_why.specs.Explaining.{AreFieldsOf, Explains, IsFoundWith, Leaves, Names, TellsValidator, TellsWindow, carries_answer, named_since, names_one, stale_told, way_by, way_name};
+ghost use Rattle.hc_why.specs.Listing.{Lists};
+ghost use Rattle.hc_past.specs.Naming.{setting_by, shortfall_in};
+ghost use Rattle.hc_past.specs.Remembered.{IsPastOf, end_seen};
 
 use crate::changes::Ends;
-use crate::past::{End, Past, fields_of};
-use crate::shortfalls::{Nearest, Reaches, Shortfall, named, setting_of};
-use crate::window::is_of_part;
-use crate::wrongs::{Why, names_response};
 use hc_audit::JudgedReply;
 use hc_fresh::date_stated;
-use hc_gaps::{Demand, Differences, PERMITTED_PART, Rule, Setting, StaleUse, compare, stale_use};
+use hc_gaps::{Differences, PERMITTED_PART, compare};
 use hc_history::{Candidate, Finding, Mark, Reason, ReplyClaim, is_judged_collapsed};
 use hc_index::Index;
+use hc_past::{
+    End, Nearest, Past, Reaches, Shortfall, Why, fields_of, is_of_part, named, names_response,
+    setting_of,
+};
 use hc_transcript::ToldCause;
+use hc_use::{Demand, Rule, Setting, StaleUse, stale_use};
 use std::alloc::{AllocError, Global};
 
 /// The way that a reply went, by the mark by which it is judged.
@@ -40,7 +43,9 @@ pub enum Way {
 
 impl Way {
     /// The word for it.
-    pub fn name(&self) -> &'static str {
+    pub fn name(&self) -> &'static str
+        ensures { result.now ≡ way_name self.now }
+    {
         match self {
             Way::Hit => "hit",
             Way::Forwarded => "forwarded",
@@ -112,7 +117,9 @@ impl Drop for Explanation<'_> {
 }
 
 /// The way of a reply of that mark.
-pub(crate) fn way_of(claim: &ReplyClaim<'_>, mark: Mark) -> Way {
+pub(crate) fn way_of(claim: &ReplyClaim<'_>, mark: Mark) -> Way
+    ensures { result ≡ way_by claim.now.format mark }
+{
     match mark {
         Mark::Hit { .. } => Way::Hit,
         Mark::Forwarded { collapsed } if is_judged_collapsed(claim, collapsed) => Way::Collapsed,
@@ -145,7 +152,7 @@ fn permitted_part<I: Index>(
         return Ok(None);
     }
     let mut settings = judged.settings.copy(alloc)?;
-    settings.allowed.ranges = true;
+    Setting::Ranges.allow(&mut settings);
     if gets_further(judged.finding, judged.found_with(&settings)?) {
         Ok(Some(PERMITTED_PART))
     } else {
@@ -167,10 +174,33 @@ fn found_with_setting<I: Index>(
     alloc: Global,
     judged: &JudgedReply<'_, I>,
     nearest: Option<&Nearest<'_>>,
-) -> Result<Option<Finding>, AllocError> {
+) -> Result<Option<Finding>, AllocError>
+    ensures { (h : List Item) → IsSeenAs judged.now.format (I.seen judged.now.index.now) h
+        → IfOk result (IsFoundWith judged.now h (setting_by (shortfall_in (option_copied nearest.entry)))) }
+{
     match setting_of(nearest) {
         Some(setting) => Ok(Some(found_with(alloc, judged, setting)?)),
         None => Ok(None),
+    }
+}
+
+// The position after which the response is named of a reply that went so: that of its request, where it was collapsed.
+fn named_since(way: Way, claim: &ReplyClaim<'_>) -> u64
+    ensures { result ≡ named_since way claim.now }
+{
+    match way {
+        Way::Collapsed => claim.since,
+        Way::Hit | Way::Forwarded | Way::Unmarked => 0,
+    }
+}
+
+// That candidate, if one is named of a reply of which that is found.
+fn of_finding(finding: Finding, candidate: Option<Candidate>) -> Option<Candidate>
+    ensures { result ≡ (if names_one finding then candidate else None) }
+{
+    match finding {
+        Finding::Wrong(reason) if !names_response(reason) => None,
+        _ => candidate,
     }
 }
 
@@ -216,13 +246,10 @@ impl<'a> Explanation<'a> {
         let permitted = permitted_part(alloc, judged)?;
         let way = way_of(&claim, judged.mark);
         let candidates = judged.candidates()?;
-        let bound = if way == Way::Collapsed {
-            claim.since
-        } else {
-            0
-        };
+        let bound = named_since(way, &claim);
         let candidate = named(judged.index, &claim, candidates.as_slice(), bound);
-        let nearest = Nearest::read(alloc, judged.index, &claim, candidate)?;
+        let of_it = of_finding(judged.finding, candidate);
+        let nearest = Nearest::read(alloc, judged.index, &claim, of_it)?;
         let with_setting = found_with_setting(alloc, judged, nearest.as_ref())?;
         let mut explanation = Explanation {
             alloc,
@@ -253,6 +280,11 @@ impl<'a> Explanation<'a> {
         bound: u64,
     ) -> Result<(), AllocError>
         ensures leaves { OnOk result (Leaves self.old self.new) }
+        ensures named { OnOk result (self.new.nearest ≡ (if carries_answer self.new then None else self.old.nearest)) }
+        ensures with_setting { OnOk result (self.new.with_setting ≡ (if carries_answer self.new then None else self.old.with_setting)) }
+        ensures stale { OnOk result (self.new.stale ≡ stale_told self.new.way self.new.claim self.new.nearest) }
+        ensures came { OnOk result (AreFieldsOf self.new.claim self.new.nearest self.new.came) }
+        ensures lists { OnOk result (Lists self.new.claim self.old.nearest self.new.ends) }
         ensures told { OnOk result (told_of self.new.ends ≡ told_by_all self.new.claim none_told (map end_seen self.new.past.now.ends.items)) }
         ensures validator { OnOk result (IfSome self.new.nearest (λ nearest. place_of_end (option_copied self.new.ends.validator)
             ≡ place_among self.new.claim.target nearest.state.now.validated_at (map end_seen self.new.past.now.ends.items))) }
@@ -265,20 +297,32 @@ impl<'a> Explanation<'a> {
             bound,
         )?;
         self.fill_why()?;
-        self.stale = self.stale_of();
         self.ends = Ends::read(self)?;
+        if self.carries_answer() {
+            self.nearest = None;
+            self.with_setting = None;
+        }
+        self.fill_permitted()?;
+        self.stale = self.stale_of();
         self.came = self.came_of()?;
-        self.fill_permitted()
+        Ok(())
+    }
+
+    // Whether it is right, went forward, and carries what came in its window.
+    fn carries_answer(&self) -> bool
+        ensures { result ≡ carries_answer self.now }
+    {
+        match (self.finding, self.way) {
+            (Finding::Right, Way::Forwarded) => self.ends.carried.is_some(),
+            _ => false,
+        }
     }
 
     // Takes in what is asked where what was done is permitted.
     fn fill_permitted(&mut self) -> Result<(), AllocError>
-        ensures leaves { OnOk result (Leaves self.old self.new) }
+        ensures names { OnOk result (Names self.old self.new) }
         ensures ends { OnOk result (self.new.ends ≡ self.old.ends) }
     {
-        if self.why.is_none() && self.way == Way::Forwarded && self.ends.carried.is_some() {
-            self.nearest = None;
-        }
         let permitted = self.permitted_change()?.or(self.permitted_selection()?);
         self.permitted = permitted.or(self.permitted);
         Ok(())
@@ -286,7 +330,9 @@ impl<'a> Explanation<'a> {
 
     // The fields in which the reply differs from the response that is named, where it gives this, which it may not, and all of
     // this is known.
-    fn came_of(&self) -> Result<Option<Differences>, AllocError> {
+    fn came_of(&self) -> Result<Option<Differences>, AllocError>
+        ensures { IfOk result (AreFieldsOf self.now.claim self.now.nearest) }
+    {
         let Some(nearest) = &self.nearest else {
             return Ok(None);
         };
@@ -302,7 +348,9 @@ impl<'a> Explanation<'a> {
 
     // How stale the response is that is named, and what permits to give it, where the reply is a hit, and it keeps the rules
     // on what stale responses may be given.
-    fn stale_of(&self) -> Option<StaleUse> {
+    fn stale_of(&self) -> Option<StaleUse>
+        ensures { result ≡ stale_told self.now.way self.now.claim self.now.nearest }
+    {
         let nearest = self.nearest.as_ref()?;
         match nearest.breaks() {
             None | Some(Rule::Body | Rule::Fields | Rule::Age | Rule::Ttl)
@@ -313,15 +361,12 @@ impl<'a> Explanation<'a> {
 
     // Takes in why it is wrong, if it is.
     fn fill_why(&mut self) -> Result<(), AllocError>
-        ensures { OnOk result (Leaves self.old self.new) }
+        ensures { OnOk result (Names self.old self.new) }
     {
         let Finding::Wrong(reason) = self.finding else {
             return Ok(());
         };
         self.why = Some(Why::read(self.alloc, &self.claim, reason, self.past)?);
-        if !names_response(reason) {
-            self.nearest = None;
-        }
         Ok(())
     }
 
@@ -348,7 +393,9 @@ impl<'a> Explanation<'a> {
     }
 
     /// Whether a 304 after the request validated that response.
-    pub fn was_validated(&self, nearest: &Nearest<'_>) -> bool {
+    pub fn was_validated(&self, nearest: &Nearest<'_>) -> bool
+        ensures { result ≡ nat_lt self.now.claim.since (unwrap_or nearest.now.state.now.validated_at 0) }
+    {
         self.claim.since < nearest.state.validated_at.unwrap_or(0)
     }
 
@@ -365,17 +412,6 @@ impl<'a> Explanation<'a> {
     /// Whether a reply that went forward is to be that stored response, or gives it.
     pub fn stands_for(&self, nearest: &Nearest<'_>) -> bool {
         self.was_validated(nearest) || self.given(nearest).is_some()
-    }
-
-    /// The latest response of which the reply has the status and the body, of those that may not be stored.
-    pub fn given_unstored(&self) -> Option<&'a End> {
-        let mut given = None;
-        for end in self.ends.unstored.named.iter() {
-            if end.is_given(&self.claim) {
-                given = Some(*end);
-            }
-        }
-        given
     }
 
     /// The answer to a forward of its own that a wrong hit carries as a whole, where it is known whose that was, and nothing came

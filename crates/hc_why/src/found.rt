@@ -4,7 +4,8 @@ ghost use Rattle.std.specs.Prelude.{◌≡◌, List, true, is_some, IfOk, IfSome
 ghost use Rattle.hc_transcript.specs.History.{exchange_of};
 ghost use Rattle.hc_transcript.specs.Items.{Item};
 ghost use Rattle.hc_history.specs.Seen.{IsSeenAs};
-ghost use Rattle.hc_why.specs.Found.{finding_of, position_of};
+ghost use Rattle.hc_why.specs.Explaining.{way_by};
+ghost use Rattle.hc_why.specs.Found.{finding_of, position_of, way_found};
 
 use crate::explaining::{Way, way_of};
 use hc_audit::JudgedReply;
@@ -44,6 +45,8 @@ impl FoundReply {
         judged: &JudgedReply<'_, I>,
     ) -> Result<Option<Self>, AllocError>
         ensures told { IfOk result (λ found. IfSome found (λ reply. (position_of reply ≡ judged.now.position) × (finding_of reply ≡ judged.now.finding))) }
+        ensures way { (h : List Item) → IsSeenAs judged.now.format (I.seen judged.now.index.now) h
+            → IfOk result (λ found. IfSome found (λ reply. way_found reply ≡ way_by judged.now.format judged.now.mark)) }
         ensures there { (h : List Item) → IsSeenAs judged.now.format (I.seen judged.now.index.now) h → IsSome (exchange_of judged.now.exchange h)
             → IfOk result (λ found. is_some found ≡ true) }
     {

@@ -7,7 +7,7 @@ ghost use Rattle.hc_audit.specs.Hearing.{IsReplyBehind, item_judged};
 ghost use Rattle.hc_audit.specs.Told.{wrong_of};
 ghost use Rattle.hc_why.specs.Found.{finding_of, position_of};
 ghost use Rattle.hc_why.specs.Seeking.{HasFound, HasFoundAmong, HasHeard, IsFoundAt, IsOfPlace, first_of, has_passed, place_of, reason_in, wrong_at};
-ghost use Rattle.hc_why.specs.Standing.{stands_at};
+ghost use Rattle.hc_past.specs.Standing.{stands_at};
 
 use crate::first::FirstWrong;
 use crate::found::FoundReply;

@@ -1,12 +1,11 @@
 //! In what the response that is named falls short, as it is told.
 
 use crate::explaining::Explanation;
-use crate::past::fields_of;
-use crate::shortfalls::{Nearest, Shortfall};
-use crate::unstored::NO_GET;
-use hc_gaps::{AgeOrigin, Aged, Differences, FieldsOrigin, Selection, Usage};
+use hc_gaps::{Differences, FieldsOrigin, Selection};
 use hc_history::Finding;
+use hc_past::{NO_GET, Nearest, Shortfall, fields_of};
 use hc_shown::{RecordName, Teller};
+use hc_use::{AgeOrigin, Aged, Usage};
 
 impl<'a> Explanation<'a> {
     // The record of the forward that the response answers which is named, as far as it is known.
@@ -123,7 +122,9 @@ impl<'a> Explanation<'a> {
         let (name, seconds) = setting.named();
         teller.words("; an audit with ");
         teller.words(name);
-        teller.count(" ", seconds, "");
+        if let Some(seconds) = seconds {
+            teller.count(" ", seconds, "");
+        }
         if usage.slack != 0 {
             teller.words(" beside that slack");
         }

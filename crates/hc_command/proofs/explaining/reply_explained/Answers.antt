@@ -3,7 +3,7 @@ use Rattle.std.specs.Prelude.{string_bytes}
 use Rattle.std.proofs.lemmas.Result.{IfOk-weaker}
 use Rattle.hc_why.specs.Found.{finding_of, position_of}
 use Rattle.hc_why.specs.Seeking.{HasHeard, HasPassed, IsFoundAt, IsOfPlace, place_of, wrong_at}
-use Rattle.hc_why.specs.Standing.{stands_at}
+use Rattle.hc_past.specs.Standing.{stands_at}
 use Rattle.hc_command.specs.Report.{IsHeadLine, reply_status}
 use Rattle.hc_command.proofs.ReportLemmas.{breaks, finds, is_below}
 use Rattle.hc_command.proofs.explaining.reply_explained.Goals as goal

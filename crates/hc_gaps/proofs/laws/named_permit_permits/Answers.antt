@@ -1,5 +1,0 @@
-use Rattle.hc_gaps.proofs.PermitLemmas.{named_permits}
-use Rattle.hc_gaps.proofs.laws.named_permit_permits.Goals as goal
-
-pub returns : goal.returns
-returns c = λ claim state stale_use told. named_permits claim state stale_use told

@@ -1,0 +1,2 @@
+pub mod NamingLemmas
+pub mod PastLemmas

@@ -1,0 +1,3 @@
+pub mod Naming
+pub mod Remembered
+pub mod Standing

@@ -1,0 +1,507 @@
+//! What is remembered of the records before a reply: how the forwards ended.
+
+ghost use Rattle.std.specs.Prelude.{◌≡◌, ◌&&◌, IfOk, OnOk, bytes_eq, option_copied};
+ghost use Rattle.hc_head.specs.Targets.{same_target};
+ghost use Rattle.hc_transcript.specs.Records.{told_in};
+ghost use Rattle.hc_history.specs.Forwarded.{asks_the_same};
+
+use crate::window::asks_the_same;
+use hc_audit::PassedRecord;
+use hc_fields::{Fields, Octets, SharedOctets};
+use hc_framing::Message;
+use hc_gaps::has_body;
+use hc_head::{
+    Method, RequestHead, ResponseHead, StatusCode, Target, is_error_status, is_head, same_target,
+};
+use hc_history::{ReplyClaim, carries, may_be_for};
+use hc_index::{Index, OpenForward};
+use hc_shown::RecordName;
+use hc_transcript::{Kind, Meaning, OwnedItem, ToldCause};
+use hc_use::{Forbids, what_forbids};
+use lru::{DefaultHasher, LruCache};
+use std::alloc::{AllocError, Global};
+use std::collections::{BTreeMap, VecDeque};
+use std::num::NonZeroUsize;
+
+/// How many ends of forwards are remembered, of whatever target.
+const MOST_ENDS: usize = 1024;
+
+/// Of how many targets it is remembered why a response may not be stored.
+const MOST_TARGETS: usize = 4096;
+
+/// The most octets of a body that is remembered where all targets are.
+const LONGEST_BODY: usize = 16_384;
+
+/// The head of a forward, and that of the response to it.
+#[derive(Drop)]
+pub struct Heads {
+    /// The fields of the request that the forward was made for, as far as it is known for which, and that waits still.
+    pub asked: Option<Fields>,
+    /// What was sent to the origin.
+    pub forward: RequestHead,
+    /// What the origin answered.
+    pub response: ResponseHead,
+}
+
+/// The end of a forward.
+#[derive(Drop)]
+pub struct End {
+    /// Its record.
+    pub named: RecordName,
+    /// The record of the forward, where one target alone is remembered.
+    pub sent: Option<RecordName>,
+    /// What the forward asked for.
+    pub target: Target,
+    /// By which method.
+    pub method: Method,
+    /// The exchange that it was made for: none where no reply waits for it, and in the first format.
+    pub cause: Option<u64>,
+    /// The status of what the origin answered; none where it failed.
+    pub status: Option<StatusCode>,
+    /// What forbids to store the answer, if something does.
+    pub forbids: Option<Forbids>,
+    /// The body of the answer; none where that is too long to be remembered.
+    pub body: Option<SharedOctets>,
+    /// The heads, where one target alone is remembered.
+    pub heads: Option<Heads>,
+}
+
+// A request that waits for its reply.
+#[derive(Drop)]
+struct Asked {
+    // The position of its record.
+    position: u64,
+    fields: Fields,
+}
+
+/// What is remembered of the records before a reply: of one target, or of hosts that have its path, all ends of forwards,
+/// with their heads and bodies; of all targets the latest ends, and what forbids to store the latest response of each. The latter
+/// takes no more than so much memory.
+pub struct Past {
+    alloc: Global,
+    // The one target, if it is one.
+    only: Option<Target>,
+    // The records of the open forwards by their numbers, where it is one target.
+    sent: BTreeMap<u64, RecordName>,
+    // The requests of the open exchanges by their numbers, where it is one target.
+    asked: BTreeMap<u64, Asked>,
+    // The position of the latest reply there, 0 where there is none.
+    answered: u64,
+    /// The ends of forwards that are remembered, the oldest first.
+    pub ends: VecDeque<End>,
+    /// The position of the latest end that is forgotten, 0 where none is.
+    pub(crate) forgotten: u64,
+    /// What forbids to store the latest response of a target that may not be stored.
+    pub(crate) forbidden: LruCache<Target, Forbids, DefaultHasher>,
+    /// Whether a target is forgotten of which a response may not be stored.
+    pub(crate) has_forgotten_target: bool,
+    ghost few_targets: { forbidden.cap ≡ 4096 },
+}
+
+impl Drop for Past {
+    fn drop(self) {
+        let Past {
+            alloc: _,
+            only,
+            sent,
+            asked,
+            answered: _,
+            ends,
+            forgotten: _,
+            forbidden,
+            has_forgotten_target: _,
+        } = self;
+        drop(only);
+        drop(sent);
+        drop(asked);
+        drop(ends);
+        drop(forbidden);
+    }
+}
+
+/// A head in memory of its own, but for how its target is written.
+pub fn copied_request(alloc: Global, head: &RequestHead) -> Result<RequestHead, AllocError> {
+    Ok(RequestHead {
+        method: head.method.clone()?,
+        target: Octets::new(alloc),
+        version: head.version,
+        fields: head.fields.copy(alloc)?,
+    })
+}
+
+// What forbids to store that answer to that request, if something does.
+fn forbidden_by(request: &RequestHead, answer: &ResponseHead) -> Option<Forbids> {
+    let forbids = what_forbids(request, answer);
+    if forbids.is_nothing() {
+        None
+    } else {
+        Some(forbids)
+    }
+}
+
+// The record that passed, of that kind.
+fn record_of<I>(passed: &PassedRecord<'_, I>, kind: Kind) -> RecordName
+    ensures { result ≡ record { position = passed.now.position; kind = kind; number = passed.now.item.now.number; moment = passed.now.item.now.moment } }
+{
+    RecordName {
+        position: passed.position,
+        kind,
+        number: passed.item.number,
+        moment: passed.item.moment,
+    }
+}
+
+impl Past {
+    ghost use Rattle.std.specs.Prelude.{List, [], ◌∷◌, IsSome};
+    ghost use Rattle.hc_head.specs.declared.head.Target.{Target};
+    ghost use Rattle.hc_transcript.specs.History.{cause_of, forward_of};
+    ghost use Rattle.hc_transcript.specs.Items.{Item};
+    ghost use Rattle.hc_audit.specs.Hearing.{IsRecordBehind, item_passed};
+    ghost use Rattle.hc_past.specs.Remembered.{EndSeen, IsPastOf, Remembers, answered_by, end_seen, ends_with, named_as};
+
+    /// Nothing, so far, of that target, of which all is remembered; or of all targets, of which the latest is.
+    pub fn new(alloc: Global, only: Option<Target>) -> Result<Self, AllocError>
+        ensures { (target : Target) → only ≡ Some target → IfOk result (IsPastOf target []) }
+    {
+        let targets = NonZeroUsize::new(MOST_TARGETS).unwrap();
+        Ok(Past {
+            alloc,
+            only,
+            sent: BTreeMap::new(alloc),
+            asked: BTreeMap::new(alloc),
+            answered: 0,
+            ends: VecDeque::new(alloc),
+            forgotten: 0,
+            forbidden: LruCache::sparse(alloc, targets)?,
+            has_forgotten_target: false,
+        })
+    }
+
+    // Whether what was asked for has the path of the one target, where it is one.
+    fn is_of_one(&self, target: &Target) -> bool {
+        match &self.only {
+            Some(only) => target.path == only.path,
+            None => false,
+        }
+    }
+
+    // Whether it is remembered how the forwards for that target ended.
+    fn is_remembered(&self, target: &Target) -> bool
+        ensures { (one : Target) → self.now.only ≡ Some one → result ≡ bytes_eq target.now.path one.path }
+    {
+        match &self.only {
+            Some(only) => target.path == only.path,
+            None => true,
+        }
+    }
+
+    /// Takes in the next record, which is no reply. It fails only where memory is refused.
+    pub fn pass<I: Index>(&mut self, passed: &PassedRecord<'_, I>) -> Result<(), AllocError>
+        // Of one target it is the past of all items, if it was that of those before.
+        ensures { (h : List Item) (target : Target) → IsPastOf target h self.old → IsRecordBehind I.seen h passed.now
+            → OnOk result (IsPastOf target (item_passed passed.now ∷ h) self.new) }
+    {
+        match &passed.item.of {
+            Meaning::OriginRequest { target, .. } => self.take_sent(passed, target),
+            Meaning::ClientRequest { target, request } => {
+                self.take_asked(passed, target, &request.head.fields)
+            }
+            Meaning::OriginResponse(response) => {
+                self.take(passed, Kind::OriginResponse, Some(response))
+            }
+            Meaning::OriginFailure => self.take(passed, Kind::OriginFailure, None),
+            Meaning::ClientReply(_) => Ok(()),
+        }
+    }
+
+    // Takes in a forward for that target.
+    fn take_sent<I: Index>(
+        &mut self,
+        passed: &PassedRecord<'_, I>,
+        target: &Target,
+    ) -> Result<(), AllocError>
+        ensures { (one : Target) (ends : List EndSeen) → Remembers one ends self.old → Remembers one ends self.new }
+    {
+        if !self.is_of_one(target) {
+            return Ok(());
+        }
+        let named = record_of(passed, Kind::OriginRequest);
+        self.sent.insert(passed.item.number, named)?;
+        Ok(())
+    }
+
+    // Takes in a request for that target.
+    fn take_asked<I: Index>(
+        &mut self,
+        passed: &PassedRecord<'_, I>,
+        target: &Target,
+        fields: &Fields,
+    ) -> Result<(), AllocError>
+        ensures { (one : Target) (ends : List EndSeen) → Remembers one ends self.old → Remembers one ends self.new }
+    {
+        if !self.is_of_one(target) {
+            return Ok(());
+        }
+        let asked = Asked {
+            position: passed.position,
+            fields: fields.copy(self.alloc)?,
+        };
+        drop(self.asked.insert(passed.item.number, asked)?);
+        Ok(())
+    }
+
+    // The fields of the request that a forward was made for of that cause, if that is told, or only one can be meant.
+    fn asked_for(&self, cause: Option<u64>) -> Option<&Fields> {
+        match cause {
+            Some(exchange) => Some(&self.asked.get(&exchange)?.fields),
+            None if self.asked.len() == 1 => Some(&self.asked.values().next()?.fields),
+            None => None,
+        }
+    }
+
+    /// Takes in a reply to an exchange of the one target.
+    pub fn answer(&mut self, exchange: u64, position: u64)
+        ensures { (one : Target) (ends : List EndSeen) → Remembers one ends self.old → Remembers one ends self.new }
+    {
+        if self.asked.remove(&exchange).is_some() {
+            self.answered = position;
+        }
+    }
+
+    /// Whether no exchange of the one target but the one whose request stands at that position has been open since.
+    pub fn is_alone(&self, since: u64) -> bool {
+        self.answered < since && self.asked.len() <= 1
+    }
+
+    // Takes in the end of a forward: that response, or a failure.
+    fn take<I: Index>(
+        &mut self,
+        passed: &PassedRecord<'_, I>,
+        kind: Kind,
+        response: Option<&Message<ResponseHead>>,
+    ) -> Result<(), AllocError>
+        ensures { (h : List Item) (one : Target) (ends : List EndSeen) → Remembers one ends self.old → IsRecordBehind I.seen h passed.now
+            → OnOk result (Remembers one (ends_with one.path (named_as kind passed.now.position passed.now.item.now.number passed.now.item.now.moment) (cause_of passed.now.item.now.number h) (option_copied response.entry)
+            (forward_of passed.now.item.now.number h) ends) self.new) }
+    {
+        let number = passed.item.number;
+        let Some(forward) = passed.index.forward(number) else {
+            return Ok(());
+        };
+        if !self.is_remembered(&forward.target) {
+            return Ok(());
+        }
+        let sent = self.sent.remove(&number);
+        let mut end = End::begun(self.alloc, record_of(passed, kind), sent, forward)?;
+        self.take_answer(&mut end, &forward.request, response)?;
+        self.make_room();
+        self.ends.push_back(end)?;
+        Ok(())
+    }
+
+    // Takes in what is remembered of the answer to that request, if there is one: where one target alone is, all of it.
+    fn take_answer(
+        &mut self,
+        end: &mut End,
+        request: &RequestHead,
+        response: Option<&Message<ResponseHead>>,
+    ) -> Result<(), AllocError>
+        ensures kept { (one : Target) (ends : List EndSeen) → Remembers one ends self.old → Remembers one ends self.new }
+        ensures taken { IsSome self.old.only → OnOk result (end_seen end.new ≡ answered_by (option_copied response.entry) (end_seen end.old)) }
+    {
+        let Some(response) = response else {
+            return Ok(());
+        };
+        let head = &response.head;
+        end.forbids = forbidden_by(request, head);
+        self.forbid(&end.target, end.forbids)?;
+        end.status = Some(head.status);
+        end.body = self.remembered_body(&response.body)?;
+        end.heads = self.remembered_heads(end.cause, request, head)?;
+        Ok(())
+    }
+
+    // The body of an answer, if it is remembered: of one target each is, and else one that isn't too long.
+    fn remembered_body(&self, body: &SharedOctets) -> Result<Option<SharedOctets>, AllocError>
+        ensures { IsSome self.now.only → IfOk result (λ remembered. remembered ≡ Some body.now) }
+    {
+        if self.only.is_some() || body.len() <= LONGEST_BODY {
+            return Ok(Some(body.share()?));
+        }
+        Ok(None)
+    }
+
+    // The heads, if they are remembered.
+    fn remembered_heads(
+        &self,
+        cause: Option<u64>,
+        request: &RequestHead,
+        head: &ResponseHead,
+    ) -> Result<Option<Heads>, AllocError> {
+        if self.only.is_none() {
+            return Ok(None);
+        }
+        let asked = match self.asked_for(cause) {
+            Some(fields) => Some(fields.copy(self.alloc)?),
+            None => None,
+        };
+        Ok(Some(Heads {
+            asked,
+            forward: copied_request(self.alloc, request)?,
+            response: ResponseHead {
+                status: head.status,
+                version: head.version,
+                fields: head.fields.copy(self.alloc)?,
+            },
+        }))
+    }
+
+    // Takes in what forbids to store the latest response of a target, if something does.
+    fn forbid(&mut self, target: &Target, forbids: Option<Forbids>) -> Result<(), AllocError>
+        ensures { (one : Target) (ends : List EndSeen) → Remembers one ends self.old → Remembers one ends self.new }
+    {
+        let Some(forbids) = forbids else {
+            return Ok(());
+        };
+        let is_new = !self.forbidden.contains(target);
+        let target = target.copy(self.alloc)?;
+        let forgotten = self.forbidden.push(target, forbids)?;
+        self.has_forgotten_target = self.has_forgotten_target || (is_new && forgotten.is_some());
+        Ok(())
+    }
+
+    // Forgets the oldest end where as many are remembered as may be, of all targets.
+    fn make_room(&mut self)
+        ensures { (one : Target) (ends : List EndSeen) → Remembers one ends self.old → Remembers one ends self.new }
+    {
+        if self.only.is_some() {
+            return;
+        }
+        if self.ends.len() < MOST_ENDS {
+            return;
+        }
+        if let Some(oldest) = self.ends.pop_front() {
+            self.forgotten = oldest.named.position;
+        }
+    }
+}
+
+impl End {
+    ghost use Rattle.hc_index.specs.Lists.{forward_seen};
+    ghost use Rattle.hc_past.specs.Remembered.{carries_answer, end_by, end_seen, is_error_by_status, may_answer};
+
+    // That of an open forward, of which no answer is known yet.
+    fn begun(
+        alloc: Global,
+        named: RecordName,
+        sent: Option<RecordName>,
+        forward: &OpenForward,
+    ) -> Result<Self, AllocError>
+        ensures { IfOk result (λ end. end_seen end ≡ end_by named forward.now.cause None (forward_seen forward.now)) }
+    {
+        Ok(End {
+            named,
+            sent,
+            target: forward.target.copy(alloc)?,
+            method: forward.request.method.clone()?,
+            cause: forward.cause,
+            status: None,
+            forbids: None,
+            body: None,
+            heads: None,
+        })
+    }
+
+    /// Whether it is of that target.
+    pub fn is_of(&self, target: &Target) -> bool
+        ensures { result ≡ same_target self.now.target target.now }
+    {
+        same_target(&self.target, target)
+    }
+
+    /// What is told of the exchange that its forward was made for, in the recording of that reply.
+    pub fn told_cause(&self, claim: &ReplyClaim<'_>) -> ToldCause
+        ensures { result ≡ told_in claim.now.format self.now.cause }
+    {
+        ToldCause::told_in(claim.format, self.cause)
+    }
+
+    /// Whether its forward may have been made for the reply that claims that, as far as that is told.
+    pub fn may_answer(&self, claim: &ReplyClaim<'_>) -> bool
+        ensures { result ≡ may_answer claim.now (end_seen self.now) }
+    {
+        may_be_for(self.told_cause(claim), claim.exchange)
+    }
+
+    /// Whether the answer is known to have that field.
+    pub fn has(&self, name: &[u8]) -> bool {
+        match &self.heads {
+            Some(heads) => heads.response.fields.contains(name),
+            None => false,
+        }
+    }
+
+    /// Whether it stands between the request and the reply that claims that.
+    pub(crate) fn is_in_window(&self, claim: &ReplyClaim<'_>) -> bool {
+        claim.since < self.named.position && self.is_of(claim.target)
+    }
+
+    /// Whether the reply has its status and its body, or no body where it answers HEAD.
+    pub fn is_given(&self, claim: &ReplyClaim<'_>) -> bool {
+        let Some(body) = &self.body else {
+            return false;
+        };
+        let told = claim.reply.body.as_slice();
+        self.status == Some(claim.reply.head.status)
+            && has_body(&claim.request.method, told, body.as_slice())
+    }
+
+    // Whether what is known of the answer is what the reply carries.
+    fn is_what_came(&self, claim: &ReplyClaim<'_>) -> bool
+        ensures { result ≡ carries_answer claim.now self.now.method self.now.status self.now.body }
+    {
+        let Some(status) = self.status else {
+            return false;
+        };
+        let Some(body) = &self.body else {
+            return false;
+        };
+        carries(claim, &self.method, status, body.as_slice())
+    }
+
+    /// Whether the reply carries it, if it stands in the window: what came for its request, or a part of that where ranges are
+    /// allowed.
+    pub fn is_carried(&self, claim: &ReplyClaim<'_>) -> bool
+        ensures { result ≡ (may_answer claim.now (end_seen self.now)
+            && carries_answer claim.now self.now.method self.now.status self.now.body) }
+    {
+        self.may_answer(claim) && self.is_what_came(claim)
+    }
+
+    /// Whether its forward may have been made for the request of the reply that claims that, and asks the same.
+    pub fn is_asked_for(&self, claim: &ReplyClaim<'_>) -> bool
+        ensures { result ≡ (may_answer claim.now (end_seen self.now) && asks_the_same claim.now self.now.method) }
+    {
+        self.may_answer(claim) && asks_the_same(claim, &self.method)
+    }
+
+    /// Whether it is an error of the origin.
+    pub fn is_error(&self) -> bool
+        ensures { result ≡ is_error_by_status self.now.status }
+    {
+        match self.status {
+            Some(status) => is_error_status(status),
+            None => false,
+        }
+    }
+
+    /// Whether it is a 200 to HEAD.
+    pub fn is_ok_to_head(&self) -> bool {
+        is_head(&self.method) && self.status == Some(StatusCode::OK)
+    }
+}
+
+/// The fields of an answer, if there is one of which they are remembered.
+pub fn fields_of(end: Option<&End>) -> Option<&Fields> {
+    Some(&end?.heads.as_ref()?.response.fields)
+}

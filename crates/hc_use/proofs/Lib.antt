@@ -1,0 +1,4 @@
+pub mod PermitLemmas
+pub mod SettingLemmas
+pub mod StoringLemmas
+pub mod UsingLemmas

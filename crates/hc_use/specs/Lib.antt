@@ -1,0 +1,9 @@
+pub mod Aging
+pub mod Demanding
+pub mod Forbidding
+pub mod Laws
+pub mod Permits
+pub mod Rules
+pub mod Stale
+pub mod Trusting
+pub mod Using
