@@ -1,6 +1,6 @@
 //! The judging of a transcript, a record at a time.
 
-ghost use Rattle.std.specs.Prelude.{◌≡◌, ◌<◌, ◌≤◌, ◌++◌, ◌∷◌, ℕ, List, [], IfOk, IfSome, IsSome, OnOk, Ok, None};
+ghost use Rattle.std.specs.Prelude.{◌≡◌, ◌<◌, ◌≤◌, ◌++◌, ◌∷◌, ℕ, List, [], IfOk, IfSome, IsSome, OnOk, Ok, None, false};
 ghost use Rattle.hc_transcript.specs.declared.format.Format.{Format};
 ghost use Rattle.hc_transcript.specs.Items.{Item, ClientReply, item_of};
 ghost use Rattle.hc_transcript.specs.Limits.{longest_unfinished};
@@ -12,6 +12,7 @@ ghost use Rattle.hc_transcript.specs.History.{exchange_of};
 ghost use Rattle.hc_history.specs.Marks.{item_mark, mark_to};
 ghost use Rattle.hc_history.specs.Seen.{IsSeenAs};
 ghost use Rattle.hc_history.specs.Verdicts.{IsVerdict};
+ghost use Rattle.hc_audit.specs.Hearing.{is_reply};
 
 use crate::next::{Next, next_behind};
 use crate::witness::{JudgedReply, PassedRecord};
@@ -127,6 +128,7 @@ impl<I: Index + Drop> Judge<I> {
         ensures reply { IfOk result (λ judged. IfSome judged (λ reply. item_of item.now ≡ ClientReply reply.exchange reply.moment reply.reply)) }
         ensures known { IfOk result (λ judged. IfSome judged (λ reply.
             (reply.format ≡ format) × (reply.settings.now ≡ self.now.settings) × (reply.index.now ≡ self.now.index))) }
+        ensures none { IfOk result (λ judged. judged ≡ None → is_reply (item_of item.now) ≡ false) }
     {
         let Meaning::ClientReply(reply) = &item.of else {
             return Ok(None);

@@ -75,7 +75,7 @@ says_report true base report settings outcome verdict status input left old new 
   all = said.all told.history told.wrongs told.told told.heard.counted;
 }
 says_report false base report settings outcome verdict status input left old new told is said =
-    record { line = said.line; more = said.more; has_status = refl; is_line = said.is_line; written = said.written }
+    (said.0, record { line = said.1.line; has_status = refl; is_line = said.1.is_line; written = said.1.written })
 
 -- ---- the baseline in an input
 

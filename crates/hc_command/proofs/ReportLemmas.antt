@@ -1,5 +1,5 @@
 -- What a survey of what was read says of all octets of an input, and what is said of it.
-use Rattle.std.proofs.Common.{◌≡◌, ◌≤◌, inl, inr, ℕ, Bool, true, length, List, [], ◌∷◌, ◌++◌, Option, None, Some, IfSome, append-nil, arith, refl, rules, subst, sym}
+use Rattle.std.proofs.Common.{◌≡◌, ◌≤◌, ◌∙◌, ap, inl, inr, ℕ, Bool, true, false, length, List, [], ◌∷◌, ◌++◌, Option, None, Some, IfSome, append-nil, arith, refl, rules, subst, sym}
 use Rattle.std.specs.Prelude.{nat_le, slice_get, IsSome}
 use Rattle.std.proofs.lemmas.Bool.Decides.{nat_tests}
 use Rattle.std.specs.Io.KnownBytes.{Consumes, IsAtEnd, Keeps}
@@ -27,7 +27,10 @@ use Rattle.hc_command.specs.declared.surveying.Stop.TheVariants as stop
 use Rattle.hc_command.specs.declared.surveying.Outcome.{Outcome}
 use Rattle.hc_command.specs.declared.surveying.Outcome.TheVariants.{Whole, Broken}
 use Rattle.hc_auditing.specs.Line.{status_of}
-use Rattle.hc_command.specs.Report.{BreaksIfSome, ExplainedTwice, ExplainsAt, FeedsSurvey, HasNoWrongAt, IsReadOf, IsSurveyed, Reported, ReportsFor, SaysLineFirst, SaysReplyIn, StopsBy, SurveysFor, WritesIfSome, ending_of}
+use Rattle.hc_history.specs.declared.verdicts.Finding.TheVariants.{Right, Wrong}
+use Rattle.hc_why.specs.Found.{IsThat}
+use Rattle.hc_command.specs.Reporting.{verdict_without}
+use Rattle.hc_command.specs.Report.{BreaksIfSome, ExplainedTwice, ExplainsAt, FeedsSurvey, HasNoReplyAt, IsReadOf, IsSurveyed, IsToldAgain, IsToldBehind, Reported, ReportsFor, SaysLineFirst, SaysReplyIn, StopsBy, SurveysFor, WritesIfSome, ending_of}
 
 -- ---- the verdict
 
@@ -147,13 +150,13 @@ keeps_same : (known : Option (List ℕ)) → Keeps known known
 keeps_same None = tt
 keeps_same (Some octets) = refl
 
-module _ (json : Bool) (settings : Settings) (input left : Option (List ℕ)) where
-  pub explains_so : (place status : ℕ) (old new faults : Option (List ℕ)) → WritesIfSome json settings input left place (Some status) old new
-      → ExplainsAt json settings input left place status old new faults faults
+module _ (json : Bool) (settings : Settings) (input left again again_left : Option (List ℕ)) where
+  pub explains_so : (place status : ℕ) (old new faults : Option (List ℕ)) → WritesIfSome json settings input left again again_left place (Some status) old new
+      → ExplainsAt json settings input left again again_left place status old new faults faults
   explains_so place status old new faults says = inr (inr (says, keeps_same faults))
 
-  pub explains_nothing : (place status : ℕ) (old new faults_old faults_new : Option (List ℕ)) → status ≡ 64 → WritesIfSome json settings input left place None old new
-      → ExplainsAt json settings input left place status old new faults_old faults_new
+  pub explains_nothing : (place status : ℕ) (old new faults_old faults_new : Option (List ℕ)) → status ≡ 64 → WritesIfSome json settings input left again again_left place None old new
+      → ExplainsAt json settings input left again again_left place status old new faults_old faults_new
   explains_nothing place status old new faults_old faults_new is nothing = inr (inl (is, nothing))
 
   -- what was read, by who reads up to a place
@@ -161,14 +164,16 @@ module _ (json : Bool) (settings : Settings) (input left : Option (List ℕ)) wh
     is_read : IsReadOf settings input left told.history told.wrongs outcome
     is_read = record { read = told.read; consumed = told.consumed; are = told.are }
 
-    no_wrong : (place : ℕ) → ((h : List Item) (wrongs : List WrongReply) → hears h → tells wrongs → wrong_at place wrongs ≡ None)
-        → (enough → (h : List Item) → hears h → place ≤ length h) → HasNoWrongAt settings input left place
-    no_wrong place none passed = record {
+    no_reply : (place : ℕ) → ((h : List Item) → hears h → stands_at place h ≡ false)
+        → ((h : List Item) (wrongs : List WrongReply) → hears h → tells wrongs → wrong_at place wrongs ≡ None)
+        → (enough → (h : List Item) → hears h → place ≤ length h) → HasNoReplyAt settings input left place
+    no_reply place standing none passed = record {
       history = told.history;
       wrongs = told.wrongs;
       outcome = outcome;
       are = is_read;
-      none = none told.history told.wrongs told.heard told.told;
+      none_stands = standing told.history told.heard;
+      none_wrong = none told.history told.wrongs told.heard told.told;
       all = elim told.all [
         | inl has ↦ inl (passed has told.history told.heard)
         | inr surveyed ↦ inr surveyed
@@ -176,22 +181,25 @@ module _ (json : Bool) (settings : Settings) (input left : Option (List ℕ)) wh
     }
 
     -- what is said where nothing is found
-    pub breaks : (place : ℕ) (status : Option ℕ) (old new : Option (List ℕ))
+    pub breaks : (place : ℕ) (status : Option ℕ) (old new : Option (List ℕ)) → ((h : List Item) → hears h → stands_at place h ≡ false)
         → ((h : List Item) (wrongs : List WrongReply) → hears h → tells wrongs → wrong_at place wrongs ≡ None)
         → (enough → (h : List Item) → hears h → place ≤ length h) → BreaksIfSome json outcome place status old new
-        → WritesIfSome json settings input left place status old new
-    breaks place None old new none passed kept = (kept, no_wrong place none passed)
-    breaks place (Some status) old new none passed says =
+        → WritesIfSome json settings input left again again_left place status old new
+    breaks place None old new standing none passed kept = (kept, no_reply place standing none passed)
+    breaks place (Some status) old new standing none passed says =
         inr (record { history = told.history; wrongs = told.wrongs; outcome = outcome; are = is_read; says = says })
 
     -- and of what is found at a place
-    pub finds : (place position status : ℕ) (finding : Finding) (old new : Option (List ℕ))
+    pub finds : (place position status : ℕ) (finding : Finding) (text : List ℕ) (old new : Option (List ℕ))
         → ((wrongs : List WrongReply) → tells wrongs → IsOfPlace place wrongs position finding) → ((h : List Item) → hears h → stands_at place h ≡ true)
-        → SaysReplyIn json position finding old new status → WritesIfSome json settings input left place (Some status) old new
-    finds place position status finding old new is stands says =
+        → IsToldAgain json settings again again_left position finding text
+        → SaysReplyIn json position finding text old new status → WritesIfSome json settings input left again again_left place (Some status) old new
+    finds place position status finding text old new is stands explained says =
         let of_place = is told.wrongs told.told in
         inl (record {
           finding = finding;
+          told = text;
+          explained = subst (λ (at : ℕ). IsToldAgain json settings again again_left at finding text) of_place.0 explained;
           is = record {
             history = told.history;
             wrongs = told.wrongs;
@@ -200,7 +208,7 @@ module _ (json : Bool) (settings : Settings) (input left : Option (List ℕ)) wh
             stands = stands told.history told.heard;
             reason = of_place.1;
           };
-          says = subst (λ (at : ℕ). SaysReplyIn json at finding old new status) of_place.0 says;
+          says = subst (λ (at : ℕ). SaysReplyIn json at finding text old new status) of_place.0 says;
         })
 
 -- a position that has passed
@@ -209,23 +217,60 @@ is_below m n is = grind (arith, nat_tests)
 
 -- ---- where the input isn't known
 
-reported_of : (json : Bool) (settings : Settings) (input : Option (List ℕ)) (status : ℕ) (old new faults_old faults_new : Option (List ℕ))
-    → ReportsFor json settings input status old new faults_old faults_new → Reported json status old new faults_old faults_new
-reported_of json settings input status old new faults_old faults_new reports = elim reports [
+reported_of : (json : Bool) (settings : Settings) (input again again_left : Option (List ℕ)) (status : ℕ) (old new faults_old faults_new : Option (List ℕ))
+    → ReportsFor json settings input again again_left status old new faults_old faults_new → Reported json status old new faults_old faults_new
+reported_of json settings input again again_left status old new faults_old faults_new reports = elim reports [
   | inl is ↦ inl is
-  | inr says ↦ inr (record { verdict = says.0.verdict; says = says.0.says }, says.1)
+  | inr says ↦ inr (record { settings = settings; input = input; again = again; again_left = again_left; says = says.0 }, says.1)
 ]
 
-pub explained_of : (json : Bool) (position : Option ℕ) (settings : Settings) (input left : Option (List ℕ)) (status : ℕ) (old new faults_old faults_new : Option (List ℕ))
-    → (position ≡ None → ReportsFor json settings input status old new faults_old faults_new)
-    → ((place : ℕ) → position ≡ Some place → ExplainsAt json settings input left place status old new faults_old faults_new)
+pub explained_of : (json : Bool) (position : Option ℕ) (settings : Settings) (input left again again_left : Option (List ℕ)) (status : ℕ) (old new faults_old faults_new : Option (List ℕ))
+    → (position ≡ None → ReportsFor json settings input again again_left status old new faults_old faults_new)
+    → ((place : ℕ) → position ≡ Some place → ExplainsAt json settings input left again again_left place status old new faults_old faults_new)
     → ExplainedTwice json position status old new faults_old faults_new
-explained_of json None settings input left status old new faults_old faults_new first at = reported_of json settings input status old new faults_old faults_new (first refl)
-explained_of json (Some place) settings input left status old new faults_old faults_new first at =
-    inr (record { settings = settings; input = input; left = left; explains = at place refl })
+explained_of json None settings input left again again_left status old new faults_old faults_new first at = reported_of json settings input again again_left status old new faults_old faults_new (first refl)
+explained_of json (Some place) settings input left again again_left status old new faults_old faults_new first at =
+    inr (record { settings = settings; input = input; left = left; again = again; again_left = again_left; explains = at place refl })
 
 -- ---- what is said
 
 -- what is said of a verdict is said with its own status
 pub says_own : (verdict : Verdict) (status : ℕ) (old new : Option (List ℕ)) → SaysLineFirst verdict status old new → SaysLineFirst verdict (status_of verdict) old new
-says_own verdict status old new s = record { line = s.line; more = s.more; has_status = refl; is_line = s.is_line; written = s.written }
+says_own verdict status old new s = (s.0, record { line = s.1.line; has_status = refl; is_line = s.1.is_line; written = s.1.written })
+
+-- ---- what is told behind a verdict
+
+not_some : false ≡ true → ⊥
+not_some same = cc
+
+some_none : (one : WrongReply) → Some one ≡ None → ⊥
+some_none one same = cc
+
+one_of : (one other : WrongReply) → Some one ≡ Some other → one ≡ other
+one_of one other same = cc
+
+-- of the first wrong reply, which was found
+pub told_behind : (json : Bool) (settings : Settings) (again again_left : Option (List ℕ)) (first : Option WrongReply) (verdict : Verdict) (position : ℕ) (finding : Finding) (told : List ℕ)
+    → IsThat first position finding → IfSome first (λ wrong. verdict ≡ No wrong.position wrong.reason) → IsToldAgain json settings again again_left position finding told
+    → IsToldBehind json settings again again_left verdict (Some told)
+told_behind json settings again again_left None verdict position finding told is said explained = absurd (not_some is.0)
+told_behind json settings again again_left (Some wrong) verdict position Right told is said explained = absurd (some_none wrong is.1)
+told_behind json settings again again_left (Some wrong) verdict position (Wrong why) told is said explained =
+    let same : wrong ≡ record { position = position; reason = why } = one_of wrong _ is.1 in
+    subst (λ (v : Verdict). IsToldBehind json settings again again_left v (Some told))
+    (sym (said ∙ ap (λ (w : WrongReply). No w.position w.reason) same)) explained
+
+none_there : {X : Type 0} (found : Option X) → found ≡ None → IsSome found → ⊥
+none_there {X} None is some = cc
+none_there {X} (Some x) is some = cc
+
+-- where nothing was found, no reply is wrong
+pub none_first : {X : Type 0} (first : Option WrongReply) (found : Option X) → (IsSome first → IsSome found) → found ≡ None → first ≡ None
+none_first {X} None found there is = refl
+none_first {X} (Some wrong) found there is = absurd (none_there found is (there refl))
+
+-- nothing where no reply is wrong
+pub nothing_behind : (json : Bool) (settings : Settings) (again again_left : Option (List ℕ)) (outcome : Outcome)
+    → IsToldBehind json settings again again_left (verdict_without outcome) None
+nothing_behind json settings again again_left (Whole counts) = refl
+nothing_behind json settings again again_left (Broken position fault) = refl

@@ -1,5 +1,5 @@
 -- What a report on a transcript, and the explanation of a reply, leave on their two writers.
-use Rattle.std.specs.Prelude.{◌≡◌, ◌≤◌, ◌⊎◌, ℕ, List, [], ◌∷◌, ◌++◌, Bool, true, false, Option, Some, None, IfSome, length}
+use Rattle.std.specs.Prelude.{◌≡◌, ◌≤◌, ◌⊎◌, ℕ, List, [], ◌∷◌, ◌++◌, Bool, true, false, Option, Some, None, IfSome, codes, length, unwrap_or}
 use Rattle.std.specs.Io.KnownBytes.{Appends, Consumes, Keeps}
 use Rattle.hc_transcript.specs.declared.fault.RecordFault.{RecordFault}
 use Rattle.hc_transcript.specs.Items.{Item}
@@ -8,7 +8,7 @@ use Rattle.hc_history.specs.declared.verdicts.Counts.{Counts}
 use Rattle.hc_history.specs.declared.verdicts.Finding.{Finding}
 use Rattle.hc_history.specs.declared.verdicts.Finding.TheVariants.{Right, Wrong}
 use Rattle.hc_history.specs.declared.verdicts.Verdict.{Verdict}
-use Rattle.hc_history.specs.declared.verdicts.Verdict.TheVariants.{Malformed}
+use Rattle.hc_history.specs.declared.verdicts.Verdict.TheVariants.{Malformed, No, Yes}
 use Rattle.hc_history.specs.declared.wrong.WrongReply.{WrongReply}
 use Rattle.hc_history.specs.declared.wrong.Ending.{Ending}
 use Rattle.hc_history.specs.declared.wrong.Ending.TheVariants as ending
@@ -19,7 +19,10 @@ use Rattle.hc_audit.specs.Endings.{EndsSo, IsSurveyOf}
 use Rattle.hc_audit.specs.Surveying.{AreCounted, Surveys}
 use Rattle.hc_why.specs.Seeking.{reason_in, wrong_at}
 use Rattle.hc_past.specs.Standing.{stands_at}
+use Rattle.hc_explain.specs.declared.explaining.Form.{Form}
+use Rattle.hc_explain.specs.declared.explaining.Form.TheVariants.{Json, Text}
 use Rattle.hc_explain.specs.Heads.{IsHead}
+use Rattle.hc_explain.specs.Hearing.{IsToldAmong}
 use Rattle.hc_why.specs.declared.explaining.Way.{Way}
 use Rattle.hc_command.specs.declared.surveying.Outcome.{Outcome}
 use Rattle.hc_command.specs.declared.surveying.Outcome.TheVariants.{Whole, Broken}
@@ -64,42 +67,86 @@ pub record SurveysFor (tells : List WrongReply → Type 0) (hears : List Item �
   pub are : IsSurveyed read settings history wrongs outcome
   pub all : enough ⊎ IfSome old (λ octets. IsSurveyed octets settings history wrongs outcome)
 
+-- ---- what is told of a reply, when the input is read again
+
+-- what was read of the input has these items, these wrong replies and this outcome
+pub record IsReadOf (settings : Settings) (input left : Option (List ℕ)) (history : List Item) (wrongs : List WrongReply) (outcome : Outcome) : Type 0 where
+  pub read : List ℕ
+  pub consumed : Consumes input left read
+  pub are : IsSurveyed read settings history wrongs outcome
+
+-- in JSON, or as text
+abbrev pub form_of : Bool → Form
+form_of true = Json
+form_of false = Text
+
+-- that is told, in JSON or as text, of the reply at that place, of which that is found, among the items of what was read of the input when it was read again
+pub record IsToldAgain (json : Bool) (settings : Settings) (again again_left : Option (List ℕ)) (place : ℕ) (finding : Finding) (text : List ℕ) : Type 0 where
+  pub history : List Item
+  pub wrongs : List WrongReply
+  pub outcome : Outcome
+  pub are : IsReadOf settings again again_left history wrongs outcome
+  pub told : IsToldAmong (form_of json) history place finding text
+
+-- what is told behind a verdict: of a no what is told of the reply that is wrong first, and else nothing
+abbrev pub IsToldBehind : Bool → Settings → Option (List ℕ) → Option (List ℕ) → Verdict → Option (List ℕ) → Type 0
+IsToldBehind json settings again again_left (Yes counts) told = told ≡ None
+IsToldBehind json settings again again_left (Malformed position fault) told = told ≡ None
+IsToldBehind json settings again again_left (No position why) None = ⊥
+IsToldBehind json settings again again_left (No position why) (Some told) = IsToldAgain json settings again again_left position (Wrong why) told
+
 -- ---- what is said
 
--- the writer got the line of the verdict, and behind it more, and this is its status
-pub record SaysLineFirst (verdict : Verdict) (status : ℕ) (old new : Option (List ℕ)) : Type 0 where
+-- an object on one line: of a verdict, and of what is told of a reply; each is null where there is none
+abbrev pub reply_text : Option (List ℕ) → List ℕ
+reply_text None = codes "null"
+reply_text (Some told) = told
+
+pub record IsObject (verdict : Option Verdict) (told : Option (List ℕ)) (text : List ℕ) : Type 0 where
+  pub verdict_text : List ℕ
+  pub null : verdict ≡ None → verdict_text ≡ codes "null"
+  pub is : text ≡ codes "{\"verdict\":" ++ (verdict_text ++ (codes ",\"reply\":" ++ (reply_text told ++ codes "}\n")))
+
+-- the writer got the line of the verdict, and that behind it, and this is its status
+pub record SaysLineThen (verdict : Verdict) (more : List ℕ) (status : ℕ) (old new : Option (List ℕ)) : Type 0 where
   pub line : List ℕ
-  pub more : List ℕ
   pub has_status : status ≡ status_of verdict
   pub is_line : IsVerdictLine verdict line
   pub written : Appends old new (line ++ more)
 
--- the writer got some text, and this is the status of the verdict
-pub record SaysText (verdict : Verdict) (status : ℕ) (old new : Option (List ℕ)) : Type 0 where
+-- the same, and something behind it
+abbrev pub SaysLineFirst : Verdict → ℕ → Option (List ℕ) → Option (List ℕ) → Type 0
+SaysLineFirst verdict status old new = (more : List ℕ) × SaysLineThen verdict more status old new
+
+-- the writer got an object of that verdict, with what is told, and this is its status
+pub record SaysText (verdict : Verdict) (told : Option (List ℕ)) (status : ℕ) (old new : Option (List ℕ)) : Type 0 where
   pub text : List ℕ
+  pub is_object : IsObject (Some verdict) told text
   pub has_status : status ≡ status_of verdict
   pub written : Appends old new text
 
 -- in JSON, or as text
-abbrev pub SaysOf : Bool → Verdict → ℕ → Option (List ℕ) → Option (List ℕ) → Type 0
-SaysOf true verdict status old new = SaysText verdict status old new
-SaysOf false verdict status old new = SaysLineFirst verdict status old new
+abbrev pub SaysOf : Bool → Verdict → Option (List ℕ) → ℕ → Option (List ℕ) → Option (List ℕ) → Type 0
+SaysOf true verdict told status old new = SaysText verdict told status old new
+SaysOf false verdict told status old new = SaysLineThen verdict (unwrap_or told []) status old new
 
--- the verdict is that on all octets that the input had, where these are known
-pub record SaysReport (json : Bool) (settings : Settings) (input : Option (List ℕ)) (status : ℕ) (old new : Option (List ℕ)) : Type 0 where
+-- the verdict is that on all octets that the input had, where these are known, and behind it is told what there is to tell
+pub record SaysReport (json : Bool) (settings : Settings) (input again again_left : Option (List ℕ)) (status : ℕ) (old new : Option (List ℕ)) : Type 0 where
   pub verdict : Verdict
   pub is : IfSome input (λ octets. IsVerdict octets settings verdict)
-  pub says : SaysOf json verdict status old new
+  pub told : Option (List ℕ)
+  pub explained : IsToldBehind json settings again again_left verdict told
+  pub says : SaysOf json verdict told status old new
 
--- a report says so on the output and leaves the faults as they were; where there is none, the status is 3
-abbrev pub ReportsFor : Bool → Settings → Option (List ℕ) → ℕ → Option (List ℕ) → Option (List ℕ) → Option (List ℕ) → Option (List ℕ) → Type 0
-ReportsFor json settings input status old new faults_old faults_new =
-    (status ≡ 3) ⊎ (SaysReport json settings input status old new × Keeps faults_old faults_new)
+-- an explanation says so on the output and leaves the faults as they were; where there is none, the status is 3
+abbrev pub ReportsFor : Bool → Settings → Option (List ℕ) → Option (List ℕ) → Option (List ℕ) → ℕ → Option (List ℕ) → Option (List ℕ) → Option (List ℕ) → Option (List ℕ) → Type 0
+ReportsFor json settings input again again_left status old new faults_old faults_new =
+    (status ≡ 3) ⊎ (SaysReport json settings input again again_left status old new × Keeps faults_old faults_new)
 
 -- it says so, if there is a status
-abbrev pub SaysIfSome : Bool → Settings → Option (List ℕ) → Option ℕ → Option (List ℕ) → Option (List ℕ) → Type 0
-SaysIfSome json settings input None old new = ⊥
-SaysIfSome json settings input (Some status) old new = SaysReport json settings input status old new
+abbrev pub SaysIfSome : Bool → Settings → Option (List ℕ) → Option (List ℕ) → Option (List ℕ) → Option ℕ → Option (List ℕ) → Option (List ℕ) → Type 0
+SaysIfSome json settings input again again_left None old new = ⊥
+SaysIfSome json settings input again again_left (Some status) old new = SaysReport json settings input again again_left status old new
 
 -- ---- what is said of the reply at a position
 
@@ -112,35 +159,29 @@ reply_status (Wrong why) = 1
 abbrev pub IsHeadLine : ℕ → Finding → List ℕ → Type 0
 IsHeadLine position finding line = (way : Way) × (head : List ℕ) × IsHead position finding way head × (line ≡ head ++ 10 ∷ [])
 
--- the writer got the line that heads the explanation of that reply, and behind it more, and this is its status
-pub record SaysHead (position : ℕ) (finding : Finding) (old new : Option (List ℕ)) (status : ℕ) : Type 0 where
+-- the writer got the line that heads the explanation of that reply, and behind it what is told of it, and this is its status
+pub record SaysHead (position : ℕ) (finding : Finding) (told : List ℕ) (old new : Option (List ℕ)) (status : ℕ) : Type 0 where
   pub line : List ℕ
-  pub more : List ℕ
   pub has_status : status ≡ reply_status finding
   pub is_line : IsHeadLine position finding line
-  pub written : Appends old new (line ++ more)
+  pub written : Appends old new (line ++ told)
 
--- the writer got some text, and this is the status of a reply of that finding
-pub record SaysFinding (finding : Finding) (old new : Option (List ℕ)) (status : ℕ) : Type 0 where
+-- the writer got an object without a verdict, in which that is told of it, and this is the status of a reply of that finding
+pub record SaysFinding (finding : Finding) (told : List ℕ) (old new : Option (List ℕ)) (status : ℕ) : Type 0 where
   pub text : List ℕ
+  pub is_object : IsObject None (Some told) text
   pub has_status : status ≡ reply_status finding
   pub written : Appends old new text
 
 -- in JSON, or as text
-abbrev pub SaysReplyIn : Bool → ℕ → Finding → Option (List ℕ) → Option (List ℕ) → ℕ → Type 0
-SaysReplyIn true position finding old new status = SaysFinding finding old new status
-SaysReplyIn false position finding old new status = SaysHead position finding old new status
+abbrev pub SaysReplyIn : Bool → ℕ → Finding → List ℕ → Option (List ℕ) → Option (List ℕ) → ℕ → Type 0
+SaysReplyIn true position finding told old new status = SaysFinding finding told old new status
+SaysReplyIn false position finding told old new status = SaysHead position finding told old new status
 
--- the writer got the line of that verdict, and nothing else; or some text, in JSON
+-- the writer got the line of that verdict, and nothing else; or an object of it, in JSON
 abbrev pub SaysBreakIn : Bool → Verdict → ℕ → Option (List ℕ) → Option (List ℕ) → Type 0
-SaysBreakIn true verdict status old new = SaysText verdict status old new
+SaysBreakIn true verdict status old new = SaysText verdict None status old new
 SaysBreakIn false verdict status old new = SaysLine verdict status old new
-
--- what was read of the input has these items, these wrong replies and this outcome
-pub record IsReadOf (settings : Settings) (input left : Option (List ℕ)) (history : List Item) (wrongs : List WrongReply) (outcome : Outcome) : Type 0 where
-  pub read : List ℕ
-  pub consumed : Consumes input left read
-  pub are : IsSurveyed read settings history wrongs outcome
 
 -- a reply stands at that place in what was read of the input, and that is found of it: it is wrong by the reason of the wrong reply that stands there among those of
 -- the octets that were read, and right where none does
@@ -152,20 +193,23 @@ pub record IsFindingAt (settings : Settings) (input left : Option (List ℕ)) (p
   pub stands : stands_at place history ≡ true
   pub reason : reason_in finding ≡ wrong_at place wrongs
 
--- no wrong reply stands at that place: what was read of the input has none there, and has the record there, or is all that the input had
-pub record HasNoWrongAt (settings : Settings) (input left : Option (List ℕ)) (place : ℕ) : Type 0 where
+-- no reply stands at that place: what was read of the input has none there, right or wrong, and has the record there, or is all that the input had
+pub record HasNoReplyAt (settings : Settings) (input left : Option (List ℕ)) (place : ℕ) : Type 0 where
   pub history : List Item
   pub wrongs : List WrongReply
   pub outcome : Outcome
   pub are : IsReadOf settings input left history wrongs outcome
-  pub none : wrong_at place wrongs ≡ None
+  pub none_stands : stands_at place history ≡ false
+  pub none_wrong : wrong_at place wrongs ≡ None
   pub all : (place ≤ length history) ⊎ IfSome input (λ octets. IsSurveyed octets settings history wrongs outcome)
 
--- the writer got what is said of the reply at that place, of which that is found
-pub record SaysFound (json : Bool) (settings : Settings) (input left : Option (List ℕ)) (place status : ℕ) (old new : Option (List ℕ)) : Type 0 where
+-- the writer got what is said of the reply at that place, of which that is found, and what is told of it when it is read again
+pub record SaysFound (json : Bool) (settings : Settings) (input left again again_left : Option (List ℕ)) (place status : ℕ) (old new : Option (List ℕ)) : Type 0 where
   pub finding : Finding
   pub is : IsFindingAt settings input left place finding
-  pub says : SaysReplyIn json place finding old new status
+  pub told : List ℕ
+  pub explained : IsToldAgain json settings again again_left place finding told
+  pub says : SaysReplyIn json place finding told old new status
 
 -- the outcome is that a record at that place or before it breaks the transcript, and the writer got that, and this is its status
 pub record SaysBreak (json : Bool) (outcome : Outcome) (place status : ℕ) (old new : Option (List ℕ)) : Type 0 where
@@ -188,28 +232,31 @@ pub record SaysBrokenBefore (json : Bool) (settings : Settings) (input left : Op
   pub are : IsReadOf settings input left history wrongs outcome
   pub says : SaysBreak json outcome place status old new
 
--- the writer got an explanation or that the transcript breaks, if there is a status, and else nothing, since no wrong reply stands there
-abbrev pub WritesIfSome : Bool → Settings → Option (List ℕ) → Option (List ℕ) → ℕ → Option ℕ → Option (List ℕ) → Option (List ℕ) → Type 0
-WritesIfSome json settings input left place None old new = Keeps old new × HasNoWrongAt settings input left place
-WritesIfSome json settings input left place (Some status) old new =
-    SaysFound json settings input left place status old new ⊎ SaysBrokenBefore json settings input left place status old new
+-- the writer got an explanation or that the transcript breaks, if there is a status, and else nothing, since no reply stands there
+abbrev pub WritesIfSome : Bool → Settings → Option (List ℕ) → Option (List ℕ) → Option (List ℕ) → Option (List ℕ) → ℕ → Option ℕ → Option (List ℕ) → Option (List ℕ) → Type 0
+WritesIfSome json settings input left again again_left place None old new = Keeps old new × HasNoReplyAt settings input left place
+WritesIfSome json settings input left again again_left place (Some status) old new =
+    SaysFound json settings input left again again_left place status old new ⊎ SaysBrokenBefore json settings input left place status old new
 
 -- an explanation of the reply at that place says on the output what is found there, or that a record before it breaks the transcript, and leaves the faults as they
--- were; where it says neither, no wrong reply stands there, the output gets nothing and the status is 64; where there is none for want of memory or by a device, the
+-- were; where it says neither, no reply stands there, the output gets nothing and the status is 64; where there is none for want of memory or by a device, the
 -- status is 3
-abbrev pub ExplainsAt : Bool → Settings → Option (List ℕ) → Option (List ℕ) → ℕ → ℕ → Option (List ℕ) → Option (List ℕ) → Option (List ℕ) → Option (List ℕ) → Type 0
-ExplainsAt json settings input left place status old new faults_old faults_new =
-    (status ≡ 3) ⊎ ((status ≡ 64) × (Keeps old new × HasNoWrongAt settings input left place))
-    ⊎ ((SaysFound json settings input left place status old new ⊎ SaysBrokenBefore json settings input left place status old new) × Keeps faults_old faults_new)
+abbrev pub ExplainsAt : Bool → Settings → Option (List ℕ) → Option (List ℕ) → Option (List ℕ) → Option (List ℕ) → ℕ → ℕ → Option (List ℕ) → Option (List ℕ) → Option (List ℕ) → Option (List ℕ) → Type 0
+ExplainsAt json settings input left again again_left place status old new faults_old faults_new =
+    (status ≡ 3) ⊎ ((status ≡ 64) × (Keeps old new × HasNoReplyAt settings input left place))
+    ⊎ ((SaysFound json settings input left again again_left place status old new ⊎ SaysBrokenBefore json settings input left place status old new) × Keeps faults_old faults_new)
 
 -- ---- where the input isn't known
 
--- the writer got what a report says of some verdict, and this is its status
+-- the writer got what is said of the verdict on some input, and behind it what is told, and this is its status
 pub record SaysSomeReport (json : Bool) (status : ℕ) (old new : Option (List ℕ)) : Type 0 where
-  pub verdict : Verdict
-  pub says : SaysOf json verdict status old new
+  pub settings : Settings
+  pub input : Option (List ℕ)
+  pub again : Option (List ℕ)
+  pub again_left : Option (List ℕ)
+  pub says : SaysReport json settings input again again_left status old new
 
--- a report on some input, in JSON or as text
+-- an explanation of the first wrong reply of some input, in JSON or as text
 abbrev pub Reported : Bool → ℕ → Option (List ℕ) → Option (List ℕ) → Option (List ℕ) → Option (List ℕ) → Type 0
 Reported json status old new faults_old faults_new =
     (status ≡ 3) ⊎ (SaysSomeReport json status old new × Keeps faults_old faults_new)
@@ -219,7 +266,9 @@ pub record ExplainsSome (json : Bool) (place status : ℕ) (old new faults_old f
   pub settings : Settings
   pub input : Option (List ℕ)
   pub left : Option (List ℕ)
-  pub explains : ExplainsAt json settings input left place status old new faults_old faults_new
+  pub again : Option (List ℕ)
+  pub again_left : Option (List ℕ)
+  pub explains : ExplainsAt json settings input left again again_left place status old new faults_old faults_new
 
 -- an explanation of a reply of some input, which is read twice: of the first wrong one, or else of the one at that place
 abbrev pub ExplainedTwice : Bool → Option ℕ → ℕ → Option (List ℕ) → Option (List ℕ) → Option (List ℕ) → Option (List ℕ) → Type 0

@@ -1,11 +1,12 @@
 //! The explanation of one reply of a transcript, which is read twice: from two readers to text on a writer and an exit
 //! status.
-ghost use Rattle.std.specs.Prelude.{◌≡◌, ◌++◌, ℕ, List, None, Some, IfOk, IsSome, string_bytes};
+ghost use Rattle.std.specs.Prelude.{◌≡◌, ◌++◌, ℕ, List, [], None, Some, IfOk, IsSome, string_bytes, unwrap_or};
 ghost use Rattle.std.specs.Io.KnownBytes.{Appends};
+ghost use Rattle.std.specs.Option.{option_map};
 ghost use Rattle.hc_history.specs.declared.verdicts.Finding.{Finding};
 ghost use Rattle.hc_why.specs.Found.{finding_of, position_of};
 ghost use Rattle.hc_why.specs.Seeking.{HasPassed, first_of};
-ghost use Rattle.hc_command.specs.Report.{BreaksIfSome, ExplainsAt, IsHeadLine, ReportsFor, SaysBreakIn, SaysIfSome, SaysOf, SaysReplyIn, SaysReport, WritesIfSome, reply_status};
+ghost use Rattle.hc_command.specs.Report.{BreaksIfSome, ExplainsAt, IsHeadLine, IsToldAgain, ReportsFor, SaysBreakIn, SaysIfSome, SaysOf, SaysReplyIn, SaysReport, WritesIfSome, form_of, reply_status};
 
 use crate::objects::object;
 use crate::saying::said_first;
@@ -72,11 +73,12 @@ pub fn explain<R: Read, S: Read, W: Write, E: Write>(
 ) -> u8
     // Without a position the verdict on all octets that the input had comes first.
     ensures first { terms.position ≡ None
-        → ReportsFor terms.json terms.settings (R.remaining input.old) result (W.contents output.old) (W.contents output.new)
+        → ReportsFor terms.json terms.settings (R.remaining input.old) (S.remaining again.old) (S.remaining again.new) result (W.contents output.old) (W.contents output.new)
         (E.contents faults.old) (E.contents faults.new) }
     // At a position what is found there of what was read of the input, or a break before it.
     ensures at { (place : ℕ) → terms.position ≡ Some place
-        → ExplainsAt terms.json terms.settings (R.remaining input.old) (R.remaining input.new) place result
+        → ExplainsAt terms.json terms.settings (R.remaining input.old) (R.remaining input.new)
+        (S.remaining again.old) (S.remaining again.new) place result
         (W.contents output.old) (W.contents output.new) (E.contents faults.old) (E.contents faults.new) }
 {
     match explained(alloc, terms, input, again, output) {
@@ -103,9 +105,10 @@ fn explained<R: Read, S: Read, W: Write>(
     output: &mut W,
 ) -> Result<Option<u8>, Trouble>
     ensures first { terms.position ≡ None
-        → IfOk result (λ status. SaysIfSome terms.json terms.settings (R.remaining input.old) status (W.contents output.old) (W.contents output.new)) }
+        → IfOk result (λ status. SaysIfSome terms.json terms.settings (R.remaining input.old) (S.remaining again.old) (S.remaining again.new) status (W.contents output.old) (W.contents output.new)) }
     ensures at { (place : ℕ) → terms.position ≡ Some place
-        → IfOk result (λ status. WritesIfSome terms.json terms.settings (R.remaining input.old) (R.remaining input.new) place status
+        → IfOk result (λ status. WritesIfSome terms.json terms.settings (R.remaining input.old) (R.remaining input.new)
+        (S.remaining again.old) (S.remaining again.new) place status
         (W.contents output.old) (W.contents output.new)) }
 {
     match terms.position {
@@ -122,7 +125,7 @@ fn first_explained<R: Read, S: Read, W: Write>(
     again: &mut S,
     output: &mut W,
 ) -> Result<u8, Trouble>
-    ensures { IfOk result (λ status. SaysReport terms.json terms.settings (R.remaining input.old) status (W.contents output.old) (W.contents output.new)) }
+    ensures { IfOk result (λ status. SaysReport terms.json terms.settings (R.remaining input.old) (S.remaining again.old) (S.remaining again.new) status (W.contents output.old) (W.contents output.new)) }
 {
     let json = terms.json;
     let same = terms.settings.copy(alloc)?;
@@ -131,7 +134,7 @@ fn first_explained<R: Read, S: Read, W: Write>(
     let verdict = outcome.verdict(seeker.first_wrong());
     match seeker.into_found() {
         Some(found) => {
-            let told = told_again(alloc, same, found, form_of(json), again)?;
+            let told = told_again(alloc, same, found, json, again)?;
             verdict_said(alloc, json, &verdict, Some(told.as_str()), output)
         }
         None => verdict_said(alloc, json, &verdict, None, output),
@@ -139,7 +142,9 @@ fn first_explained<R: Read, S: Read, W: Write>(
 }
 
 // The form in which a reply is explained.
-fn form_of(json: bool) -> Form {
+fn form_of(json: bool) -> Form
+    ensures { result ≡ form_of json }
+{
     if json { Form::Json } else { Form::Text }
 }
 
@@ -151,13 +156,23 @@ fn verdict_said<W: Write>(
     told: Option<&str>,
     output: &mut W,
 ) -> Result<u8, Trouble>
-    ensures { IfOk result (λ status. SaysOf json verdict.now status (W.contents output.old) (W.contents output.new)) }
+    ensures { IfOk result (λ status. SaysOf json verdict.now (option_map (λ t. t.now) told.entry) status (W.contents output.old) (W.contents output.new)) }
 {
     if json {
         let text = object(alloc, Some(verdict), told)?;
         written_as(text.as_str(), verdict_status(verdict), output)
     } else {
-        said_first(alloc, verdict, told.unwrap_or(""), output)
+        said_first(alloc, verdict, told_behind(told), output)
+    }
+}
+
+// What is told behind the verdict, or nothing.
+fn told_behind<'a>(told: Option<&'a str>) -> &'a str
+    ensures { result.now ≡ unwrap_or (option_map (λ t. t.now) told.entry) [] }
+{
+    match told {
+        Some(told) => told,
+        None => "",
     }
 }
 
@@ -170,7 +185,8 @@ fn reply_explained<R: Read, S: Read, W: Write>(
     again: &mut S,
     output: &mut W,
 ) -> Result<Option<u8>, Trouble>
-    ensures { IfOk result (λ status. WritesIfSome terms.json terms.settings (R.remaining input.old) (R.remaining input.new) position status
+    ensures { IfOk result (λ status. WritesIfSome terms.json terms.settings (R.remaining input.old) (R.remaining input.new)
+        (S.remaining again.old) (S.remaining again.new) position status
         (W.contents output.old) (W.contents output.new)) }
 {
     let json = terms.json;
@@ -186,7 +202,7 @@ fn reply_explained<R: Read, S: Read, W: Write>(
     };
     let head = head_line(alloc, &found)?;
     let status = status_of(found.finding);
-    let told = told_again(alloc, same, found, form_of(json), again)?;
+    let told = told_again(alloc, same, found, json, again)?;
     Ok(Some(reply_said(alloc, json, head, status, told.as_str(), output)?))
 }
 
@@ -200,7 +216,7 @@ fn reply_said<W: Write>(
     output: &mut W,
 ) -> Result<u8, Trouble>
     ensures { (position : ℕ) (finding : Finding) → IsHeadLine position finding (string_bytes head) → status ≡ reply_status finding
-        → IfOk result (SaysReplyIn json position finding (W.contents output.old) (W.contents output.new)) }
+        → IfOk result (SaysReplyIn json position finding told.now (W.contents output.old) (W.contents output.new)) }
 {
     let text = if json {
         object(alloc, None, Some(told))?
@@ -240,16 +256,25 @@ fn status_of(finding: Finding) -> u8
     }
 }
 
-// What is told of a reply that was found, in that form, when the transcript is read again.
+// What is told of a reply that was found, in JSON or as text, when the transcript is read again.
 fn told_again<S: Read>(
     alloc: Global,
     settings: Settings,
     found: FoundReply,
-    form: Form,
+    json: bool,
     again: &mut S,
-) -> Result<String, Trouble> {
+) -> Result<String, Trouble>
+    ensures { IfOk result (λ told. IsToldAgain json settings (S.remaining again.old) (S.remaining again.new)
+        (position_of found) (finding_of found) (string_bytes told)) }
+{
+    let (position, finding) = (found.position, found.finding);
+    let form = form_of(json);
     let mut explaining = Explaining::new(alloc, found, form)?;
     surveyed(alloc, settings, again, &mut explaining)?;
+    // It looks for that reply still.
+    if !explaining.is_of(position, finding, form) {
+        return Err(Trouble::Device(io::Error::other(CHANGED)));
+    }
     match explaining.into_told() {
         Some(told) => Ok(told),
         None => Err(Trouble::Device(io::Error::other(CHANGED))),
@@ -258,7 +283,7 @@ fn told_again<S: Read>(
 
 // The text, and after it what is told.
 fn with_lines(text: String, told: &str) -> Result<String, AllocError>
-    ensures { IfOk result (λ longer. (more : List ℕ) × (string_bytes longer ≡ string_bytes text ++ more)) }
+    ensures { IfOk result (λ longer. string_bytes longer ≡ string_bytes text ++ told.now) }
 {
     let mut text = text;
     text.push_str(told)?;

@@ -1,7 +1,7 @@
 //! A verdict's line, and more behind it, on a writer.
 ghost use Rattle.std.specs.Prelude.{◌++◌, IfOk, OnOk};
 ghost use Rattle.std.specs.Io.KnownBytes.{Appends};
-ghost use Rattle.hc_command.specs.Report.{SaysLineFirst};
+ghost use Rattle.hc_command.specs.Report.{SaysLineFirst, SaysLineThen};
 
 use hc_auditing::{Trouble, printed, verdict_line, verdict_status};
 use hc_history::Verdict;
@@ -16,7 +16,8 @@ pub(crate) fn said_first<W: Write>(
     more: &str,
     output: &mut W,
 ) -> Result<u8, Trouble>
-    ensures { IfOk result (λ status. SaysLineFirst verdict.now status (W.contents output.old) (W.contents output.new)) }
+    ensures then { IfOk result (λ status. SaysLineThen verdict.now more.now status (W.contents output.old) (W.contents output.new)) }
+    ensures first { IfOk result (λ status. SaysLineFirst verdict.now status (W.contents output.old) (W.contents output.new)) }
 {
     let line = verdict_line(alloc, verdict)?;
     match written(line.as_str(), more, output) {

@@ -1,5 +1,5 @@
 //! The survey of one transcript: what a reader gives is told to a witness.
-ghost use Rattle.std.specs.Prelude.{◌≡◌, ◌<◌, ◌++◌, ℕ, List, [], false, true, length, slice_get, IfErr, IfOk, IfSome};
+ghost use Rattle.std.specs.Prelude.{◌≡◌, ◌<◌, ◌++◌, ℕ, List, [], false, true, length, slice_get, None, IfErr, IfOk, IfSome};
 ghost use Rattle.hc_transcript.specs.Items.{Item};
 ghost use Rattle.hc_history.specs.declared.settings.Settings.{Settings};
 ghost use Rattle.hc_history.specs.declared.wrong.WrongReply.{WrongReply};
@@ -55,6 +55,7 @@ impl Outcome {
         ensures verdict { (octets : List ℕ) (settings : Settings) (h : List Item) (wrongs : List WrongReply)
             → IsSurveyed octets settings h wrongs self.now → first ≡ slice_get wrongs 0 → IsVerdict octets settings result }
         ensures no { IfSome first (λ wrong. result ≡ No wrong.position wrong.reason) }
+        ensures none { first ≡ None → result ≡ verdict_without self.now }
     {
         match first {
             Some(WrongReply { position, reason }) => Verdict::No(position, reason),

@@ -1,13 +1,23 @@
 //! The second reading, which explains the reply that the first one found, and the line that heads the explanation.
 
-ghost use Rattle.std.specs.Prelude.{◌≡◌, ◌++◌, List, [], ℕ, IfOk, OnOk, string_bytes};
-ghost use Rattle.hc_explain.specs.Heads.{IsHead};
-ghost use Rattle.hc_explain.specs.Hearing.{HasHeard};
+ghost use Rattle.std.specs.Prelude.{◌≡◌, ◌++◌, ◌∷◌, List, [], ℕ, true, IfOk, IfSome, OnOk, string_bytes};
+ghost use Rattle.hc_head.specs.declared.head.Target.{Target};
+ghost use Rattle.hc_head.specs.Targets.{same_target};
+ghost use Rattle.hc_transcript.specs.Items.{Item};
+ghost use Rattle.hc_history.specs.declared.verdicts.Finding.{Finding};
+ghost use Rattle.hc_audit.specs.Hearing.{IsReplyBehind, item_judged};
+ghost use Rattle.hc_why.specs.Explaining.{claim_judged, judged_of};
 ghost use Rattle.hc_why.specs.Found.{finding_of, position_of, way_found};
+ghost use Rattle.hc_explain.specs.declared.explaining.Form.{Form};
+ghost use Rattle.hc_explain.specs.Facts.{IsFormOf, IsJsonOf, IsTextOf};
+ghost use Rattle.hc_explain.specs.Heads.{IsHead};
+ghost use Rattle.hc_explain.specs.Hearing.{HasHeard, HasTold, IsExplained, IsOf, IsToldAmong, Keeps, RemembersAll};
 
-use crate::object::Object;
+use crate::facts::{put_facts, say_broken};
+use crate::object::NestedObject;
 use crate::telling::tell;
 use hc_audit::{JudgedReply, PassedRecord, Witness};
+use hc_figures::Object;
 use hc_history::Finding;
 use hc_index::Index;
 use hc_past::Past;
@@ -87,6 +97,13 @@ impl Explaining {
         })
     }
 
+    /// Whether it looks for the reply at that position, of which that is found, and tells of it in that form.
+    pub fn is_of(&self, position: u64, finding: Finding, form: Form) -> bool
+        ensures { result ≡ true → IsOf self.now position finding form }
+    {
+        self.found.position == position && self.found.finding == finding && self.form == form
+    }
+
     /// Whether the records so far have the reply, so that no further record can tell more.
     pub fn is_after(&self) -> bool {
         self.is_after
@@ -94,7 +111,10 @@ impl Explaining {
 
     // Tells of that reply, if it is the one that was found.
     fn tell<I: Index>(&mut self, judged: &JudgedReply<'_, I>) -> Result<(), AllocError>
-        ensures { (self.new.is_after ≡ self.old.is_after) × (self.new.found ≡ self.old.found) }
+        ensures kept { Keeps self.old self.new }
+        ensures told { (h : List Item) → IsReplyBehind I.seen h judged.now
+            → (judged.now.position ≡ self.old.found.position → RemembersAll self.old.found.target h self.old.past)
+            → HasTold self.old h → OnOk result (HasTold self.new (item_judged judged.now ∷ h)) }
     {
         if !self.found.is_as(judged) {
             return Ok(());
@@ -104,7 +124,10 @@ impl Explaining {
     }
 
     /// What is told of the reply, which is moved. None where it wasn't read again, as it was.
-    pub fn into_told(mut self) -> Option<String> {
+    pub fn into_told(mut self) -> Option<String>
+        ensures { (h : List Item) (position : ℕ) (finding : Finding) (form : Form) → HasHeard self h → IsOf self position finding form
+            → IfSome result (λ text. IsToldAmong form h position finding (string_bytes text)) }
+    {
         self.told.take()
     }
 }
@@ -115,22 +138,50 @@ fn explained<I: Index>(
     judged: &JudgedReply<'_, I>,
     form: Form,
     past: &Past,
-) -> Result<Option<String>, AllocError> {
+) -> Result<Option<String>, AllocError>
+    ensures { (h : List Item) (target : Target) → IsReplyBehind I.seen h judged.now → RemembersAll target h past.now
+        → IfSome (claim_judged (judged_of judged.now) h) (λ claim. same_target target claim.target ≡ true)
+        → IfOk result (λ told. IfSome told (λ text. IsExplained form (judged_of judged.now) h (string_bytes text))) }
+{
     let Some(known) = Explanation::read(alloc, judged, past)? else {
         return Ok(None);
     };
+    Ok(Some(told_of(alloc, &known, form)?))
+}
+
+// What is told of it, in that form.
+fn told_of(alloc: Global, known: &Explanation<'_>, form: Form) -> Result<String, AllocError>
+    ensures { IfOk result (λ text. IsFormOf form known.now (string_bytes text)) }
+{
     match form {
-        Form::Text => {
-            let mut page = Page::new(alloc);
-            tell(&known, &mut page);
-            Ok(Some(page.into_text()?))
-        }
-        Form::Json => {
-            let mut object = Object::new(alloc);
-            tell(&known, &mut object);
-            Ok(Some(object.into_text()?))
-        }
+        Form::Text => text_of(alloc, known),
+        Form::Json => json_of(alloc, known),
     }
+}
+
+// The lines of a text.
+fn text_of(alloc: Global, known: &Explanation<'_>) -> Result<String, AllocError>
+    ensures { IfOk result (λ text. IsTextOf known.now (string_bytes text)) }
+{
+    let mut text = String::new(alloc);
+    say_broken(known, &mut text)?;
+    let mut page = Page::new(alloc);
+    tell(known, &mut page);
+    let rest = page.into_text()?;
+    text.push_str(rest.as_str())?;
+    Ok(text)
+}
+
+// An object on one line.
+fn json_of(alloc: Global, known: &Explanation<'_>) -> Result<String, AllocError>
+    ensures { IfOk result (λ text. IsJsonOf known.now (string_bytes text)) }
+{
+    let mut nested = NestedObject::new(alloc);
+    tell(known, &mut nested);
+    let members = nested.into_members()?;
+    let mut object = Object::of(alloc, members);
+    put_facts(known, &mut object);
+    object.into_text()
 }
 
 impl<I: Index> Witness<I> for Explaining {

@@ -2,6 +2,7 @@
 #![tactic(auto)]
 
 mod explaining;
+mod facts;
 mod object;
 mod responses;
 mod telling;

@@ -11,20 +11,20 @@ struct Begun {
     value: Value,
 }
 
-/// A JSON object that is told its members. Where memory is refused for one of them, there is no object: `into_text` answers
-/// that.
+/// A JSON object that is told its members, and objects and lists in it. Where memory is refused for one of them, there are no
+/// members: `into_members` answers that.
 #[derive(Drop)]
-pub(crate) struct Object {
+pub(crate) struct NestedObject {
     alloc: Global,
     // The object itself, and those in it that were begun and haven't ended.
     begun: Vec<Begun>,
     is_refused: bool,
 }
 
-impl Object {
+impl NestedObject {
     /// No member.
     pub(crate) fn new(alloc: Global) -> Self {
-        let mut object = Object {
+        let mut object = NestedObject {
             alloc,
             begun: Vec::new(alloc),
             is_refused: false,
@@ -33,10 +33,20 @@ impl Object {
         object
     }
 
-    /// The object on one line.
-    pub(crate) fn into_text(self) -> Result<String, AllocError> {
-        match self.begun.first() {
-            Some(whole) if !self.is_refused => whole.value.to_string(self.alloc),
+    /// Its members.
+    pub(crate) fn into_members(self) -> Result<Map<String, Value>, AllocError> {
+        let NestedObject {
+            alloc: _,
+            begun,
+            is_refused,
+        } = self;
+        match begun.into_iter().next() {
+            Some(
+                Begun {
+                    name: _,
+                    value: Value::Object(members),
+                },
+            ) if !is_refused => Ok(members),
             _ => Err(AllocError),
         }
     }
@@ -75,7 +85,7 @@ fn page_value(page: Page) -> Result<Value, AllocError> {
     Ok(Value::String(page.into_text()?))
 }
 
-impl Teller for Object {
+impl Teller for NestedObject {
     fn is_text(&self) -> bool {
         false
     }

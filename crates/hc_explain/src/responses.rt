@@ -408,7 +408,7 @@ fn say_standing<T: Teller>(known: &Explanation<'_>, nearest: &Nearest<'_>, telle
 fn say_due<T: Teller>(known: &Explanation<'_>, nearest: &Nearest<'_>, teller: &mut T) {
     match &nearest.shortfall {
         Some(Shortfall::Selected(_)) => {
-            let is_none = known.ends.not_about.is_empty();
+            let is_none = known.ends.not_about.listed.is_empty();
             let besides = if is_none { "" } else { " that is no 304" };
             say_due_answer(known, besides, known.given(nearest), teller);
         }

@@ -19,13 +19,9 @@ const ASKING: [&[u8]; 8] = [
     b"pragma",
 ];
 
-/// Tells all that is known of a reply: to a text after its head line.
+/// Tells what is known of a reply beside the facts that are told first.
 pub(crate) fn tell<T: Teller>(known: &Explanation<'_>, teller: &mut T) {
-    teller.fact("position", known.position);
-    teller.fact("request", known.claim.since);
-    teller.fact("exchange", known.claim.exchange);
-    teller.word("way", known.way.name());
-    tell_finding(known, teller);
+    tell_setting(known, teller);
     tell_reply(known, teller);
     tell_responses(known, teller);
     match &known.why {
@@ -35,27 +31,13 @@ pub(crate) fn tell<T: Teller>(known: &Explanation<'_>, teller: &mut T) {
     tell_stale(known, teller);
 }
 
-// Tells what is found of the reply, and of a wrong one what it doesn't keep, after the sections that ask it.
-fn tell_finding<T: Teller>(known: &Explanation<'_>, teller: &mut T) {
+// Tells an object what would be found with the setting by which the response that is named may be used.
+fn tell_setting<T: Teller>(known: &Explanation<'_>, teller: &mut T) {
     match known.with_setting {
         Some(Finding::Right) => teller.word("with_setting", "right"),
         Some(Finding::Wrong(reason)) => teller.word("with_setting", reason.name()),
         None => {}
     }
-    let Finding::Wrong(reason) = known.finding else {
-        return teller.word("finding", "right");
-    };
-    let demand = known.demand(reason);
-    teller.word("finding", "wrong");
-    teller.fact("reason", u64::from(reason.number()));
-    teller.word("name", reason.name());
-    teller.word("sections", demand.sections);
-    teller.word("broken", demand.words);
-    teller.words("broken          ");
-    teller.words(demand.sections);
-    teller.words(": ");
-    teller.words(demand.words);
-    teller.words("\n");
 }
 
 /// Begins a line about a request and its reply.

@@ -44,6 +44,17 @@ impl Object {
         }
     }
 
+    /// An object that has these members.
+    pub fn of(alloc: Global, members: Map<String, Value>) -> Self
+        ensures { Has result (members_view members.entries) }
+    {
+        Object {
+            alloc,
+            members,
+            is_refused: false,
+        }
+    }
+
     /// Adds a member, if its value could be made.
     pub fn put(&mut self, name: &str, made: Result<Value, AllocError>)
         // Whatever value was made.

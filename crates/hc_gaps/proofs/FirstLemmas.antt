@@ -20,11 +20,15 @@ none_over most more top k room was = grind (arith)
 how_many : (most : ℕ) (all named : List (List ℕ)) (more : ℕ) → AreFirst most all named more → length named ≡ min most (length all)
 how_many most all named more are = ap length are.first ∙ length-take most all
 
+-- where there is room, there is for all
+pub room_left : (most : ℕ) (all named : List (List ℕ)) (more : ℕ) → length named < most → AreFirst most all named more → length all + 1 ≤ most
+room_left most all named more room are = few most (length named) (length all) room (how_many most all named more are)
+
 -- one is named, where there is room
 pub one_named : (most : ℕ) (all named : List (List ℕ)) (more : ℕ) (x : List ℕ) → length named < most
     → AreFirst most all named more → AreFirst most (all ++ x ∷ []) (named ++ x ∷ []) more
 one_named most all named more x room are =
-    let rest = few most (length named) (length all) room (how_many most all named more are) in
+    let rest = room_left most all named more room are in
     record {
       first = ap (λ (before : List (List ℕ)). before ++ x ∷ []) (are.first ∙ take_all most all (below most (length all) rest))
           ∙ sym (take_all most (all ++ x ∷ []) (subst (λ (k : ℕ). k ≤ most) (sym (length-append all (x ∷ []))) rest));
@@ -39,10 +43,14 @@ none_left most n k is full = grind (arith)
 one_over : (most more top k : ℕ) → most ≤ k → more ≡ min (k - most) top → min (more + 1) top ≡ min (k + 1 - most) top
 one_over most more top k full was = grind (arith)
 
+-- where there is none, there is none for more of them
+pub no_room_left : (most : ℕ) (all named : List (List ℕ)) (more : ℕ) → most ≤ length named → AreFirst most all named more → most ≤ length all
+no_room_left most all named more full are = none_left most (length named) (length all) (how_many most all named more are) full
+
 pub one_counted : (most : ℕ) (all named : List (List ℕ)) (more : ℕ) (x : List ℕ) → most ≤ length named
     → AreFirst most all named more → AreFirst most (all ++ x ∷ []) named (min (more + 1) (2 ^ 64 - 1))
 one_counted most all named more x full are =
-    let many = none_left most (length named) (length all) (how_many most all named more are) full in
+    let many = no_room_left most all named more full are in
     record {
       first = are.first ∙ sym (take-append-le most all (x ∷ []) many);
       others = one_over most more (2 ^ 64 - 1) (length all) many are.others

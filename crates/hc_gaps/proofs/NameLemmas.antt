@@ -1,19 +1,24 @@
 -- Names among those that are compared, and among those that are listed.
-use Rattle.std.proofs.Common.{◌≡◌, ◌==◌, ◌||◌, ◌<◌, ◌≤◌, ◌++◌, ◌+◌, ◌-◌, ◌^◌, min, cond, Bool, Bor, true, false, ℕ, List, [], ◌∷◌, if◌then◌else◌, length, drop, get_or, map, refl, ap, sym, subst, ◌∙◌}
+use Rattle.std.proofs.Common.{◌≡◌, ◌==◌, arith, ◌||◌, ◌<◌, ◌≤◌, ◌++◌, ◌+◌, ◌-◌, ◌^◌, min, cond, Bool, Bor, true, false, ℕ, List, [], ◌∷◌, if◌then◌else◌, length, drop, get_or, map, refl, ap, sym, subst, ◌∙◌}
 use Rattle.std.specs.List.{list_any}
 use Rattle.std.specs.Prelude.{All, filter}
 use Rattle.std.specs.Str.{bytes_eq}
-use Rattle.std.proofs.lemmas.List.{append-nil, drop_more, map-append, length-map}
+use Rattle.std.proofs.lemmas.List.{append-nil, drop-append-le, drop_all, drop_more, length-map, length_push, map-append}
 use Rattle.hc_fields.specs.declared.fields.Field.{Field}
 use Rattle.hc_head.specs.Statuses.{not_modified}
 use Rattle.hc_rules.specs.Conditions.{repeated_names}
 use Rattle.hc_update.specs.declared.stored.Stored.{Stored}
 use Rattle.hc_history.specs.Claims.{Claim}
 use Rattle.hc_history.specs.Filters.{compared_names, names_of}
+use Rattle.hc_gaps.specs.declared.differing.Change.{Change}
 use Rattle.hc_gaps.specs.declared.differing.Differences.{Differences}
 use Rattle.hc_gaps.specs.declared.differing.FieldGap.{FieldGap}
-use Rattle.hc_gaps.specs.Differing.{AreListed, IsGap, change_of, differs, most_listed, with_name, with_names}
-use Rattle.hc_gaps.proofs.FirstLemmas.{goes_on, one_counted, one_named}
+use Rattle.hc_gaps.specs.declared.differing.Freedom.{Freedom}
+use Rattle.hc_gaps.specs.declared.differing.Freedom.TheVariants.{Nothing}
+use Rattle.hc_gaps.specs.Demanding.{is_freedom}
+use Rattle.hc_gaps.specs.Differing.{AreListed, IsGap, change_of, differs, freedom_by, freedom_of, gravest_in, gravest_with, most_listed, with_name, with_names}
+use Rattle.hc_gaps.proofs.FirstLemmas.{goes_on, no_room_left, one_counted, one_named, room_left}
+use Rattle.hc_gaps.proofs.GravestLemmas.{gravest_more}
 use Rattle.hc_gaps.proofs.ListedLemmas.{all_more}
 
 -- ---- those that are compared
@@ -77,31 +82,45 @@ name_taken names new all more i d within is was =
 abbrev listed : List FieldGap → List (List ℕ)
 listed gaps = map (λ (gap : FieldGap). gap.name) gaps
 
+-- none is left behind those that are listed, or one more is
+none_behind : (claim : Claim) (state : Stored) (names : List (List ℕ)) (name : List ℕ) → length names + 1 ≤ most_listed
+    → gravest_in claim state (drop most_listed names) ≡ gravest_in claim state (drop most_listed (names ++ name ∷ []))
+none_behind claim state names name room =
+    ap (gravest_in claim state) (drop_all most_listed names (omega arith))
+    ∙ sym (ap (gravest_in claim state) (drop_all most_listed (names ++ name ∷ []) (subst (λ (n : ℕ). n ≤ most_listed) (sym (length_push names name)) room)))
+
+one_behind : (names : List (List ℕ)) (name : List ℕ) → most_listed ≤ length names → drop most_listed (names ++ name ∷ []) ≡ drop most_listed names ++ name ∷ []
+one_behind names name full = drop-append-le most_listed names (name ∷ []) full
+
 -- one more is listed, where there is room
 one_listed : (claim : Claim) (state : Stored) (names : List (List ℕ)) (name : List ℕ) (found new : Differences) (gap : FieldGap)
-    → length found.listed.items < most_listed → new.listed.items ≡ found.listed.items ++ gap ∷ [] → new.more ≡ found.more
+    → length found.listed.items < most_listed → new.listed.items ≡ found.listed.items ++ gap ∷ [] → new.more ≡ found.more → new.unlisted ≡ found.unlisted
     → IsGap claim state gap → gap.name ≡ name
     → AreListed claim state names found → AreListed claim state (names ++ name ∷ []) new
-one_listed claim state names name found new gap room items more is name-is are =
+one_listed claim state names name found new gap room items more others is name-is are =
     let same = ap listed items ∙ map-append (λ (g : FieldGap). g.name) found.listed.items (gap ∷ [])
     ∙ ap (λ (m : List ℕ). listed found.listed.items ++ m ∷ []) name-is in
-    let first = one_named most_listed names (listed found.listed.items) found.more name
-    (subst (λ (n : ℕ). n < most_listed) (sym (length-map found.listed.items (λ (g : FieldGap). g.name))) room) are.first in
+    let there = subst (λ (n : ℕ). n < most_listed) (sym (length-map found.listed.items (λ (g : FieldGap). g.name))) room in
+    let first = one_named most_listed names (listed found.listed.items) found.more name there are.first in
     record {
       each = all_more (IsGap claim state) found.listed.items new.listed.items gap items is are.each;
       first = record { first = same ∙ first.first; others = more ∙ first.others };
+      gravest = others ∙ are.gravest ∙ none_behind claim state names name (room_left most_listed names (listed found.listed.items) found.more there are.first);
     }
 
 -- one more is counted, where there is none
-one_over : (claim : Claim) (state : Stored) (names : List (List ℕ)) (name : List ℕ) (found new : Differences)
+one_over : (claim : Claim) (state : Stored) (names : List (List ℕ)) (name : List ℕ) (found new : Differences) (change : Change) (unfree : Bool)
     → most_listed ≤ length found.listed.items → new.listed.items ≡ found.listed.items → new.more ≡ min (found.more + 1) (2 ^ 64 - 1)
+    → change ≡ change_of claim state name → unfree ≡ is_freedom (freedom_of claim state name) Nothing → new.unlisted ≡ gravest_with found.unlisted change unfree
     → AreListed claim state names found → AreListed claim state (names ++ name ∷ []) new
-one_over claim state names name found new full items more are =
-    let first = one_counted most_listed names (listed found.listed.items) found.more name
-    (subst (λ (n : ℕ). most_listed ≤ n) (sym (length-map found.listed.items (λ (g : FieldGap). g.name))) full) are.first in
+one_over claim state names name found new change unfree full items more change-is unfree-is others are =
+    let many = subst (λ (n : ℕ). most_listed ≤ n) (sym (length-map found.listed.items (λ (g : FieldGap). g.name))) full in
+    let first = one_counted most_listed names (listed found.listed.items) found.more name many are.first in
     record {
       each = subst (λ (gaps : List FieldGap). All (IsGap claim state) gaps) (sym items) are.each;
       first = record { first = ap listed items ∙ first.first; others = more ∙ first.others };
+      gravest = gravest_more claim state (drop most_listed names) name found.unlisted new.unlisted change unfree change-is unfree-is are.gravest others
+          ∙ ap (gravest_in claim state) (sym (one_behind names name (no_room_left most_listed names (listed found.listed.items) found.more many are.first)));
     }
 
 -- one that doesn't differ is neither
@@ -111,25 +130,37 @@ passed_over claim state names name found same are =
     subst (λ (b : Bool). AreListed claim state (names ++ cond b (name ∷ []) []) found) (sym same)
     (subst (λ (all : List (List ℕ)). AreListed claim state all found) (sym (append-nil names)) are)
 
+-- what permits it, by what became of it
+by_change : (claim : Claim) (state : Stored) (name : List ℕ) (became : Change) → became ≡ change_of claim state name → freedom_by claim state name became ≡ freedom_of claim state name
+by_change claim state name became is = ap (freedom_by claim state name) is
+
 -- one that differs is listed, or counted
 pub taken : (claim : Claim) (state : Stored) (names : List (List ℕ)) (name : List ℕ) (found new : Differences) (gap : FieldGap)
     → differs claim state name ≡ true → length found.listed.items < most_listed
-    → new.listed.items ≡ found.listed.items ++ gap ∷ [] → new.more ≡ found.more
-    → gap.name ≡ name → gap.change ≡ change_of claim state name
+    → new.listed.items ≡ found.listed.items ++ gap ∷ [] → new.more ≡ found.more → new.unlisted ≡ found.unlisted
+    → gap.name ≡ name → gap.change ≡ change_of claim state name → gap.freedom ≡ freedom_by claim state name gap.change
     → AreListed claim state names found → AreListed claim state (names ++ filter (differs claim state) (name ∷ [])) new
-taken claim state names name found new gap other room items more name-is change-is are =
+taken claim state names name found new gap other room items more others name-is change-is freedom-is are =
+    let freedom : gap.freedom ≡ freedom_of claim state name = freedom-is ∙ by_change claim state name gap.change change-is in
     subst (λ (b : Bool). AreListed claim state (names ++ cond b (name ∷ []) []) new) (sym other)
-    (one_listed claim state names name found new gap room items more
-    (record { differs_is = ap (differs claim state) name-is ∙ other; change_is = change-is ∙ ap (change_of claim state) (sym name-is) })
+    (one_listed claim state names name found new gap room items more others
+    (record {
+      differs_is = ap (differs claim state) name-is ∙ other;
+      change_is = change-is ∙ ap (change_of claim state) (sym name-is);
+      freedom_is = freedom ∙ ap (freedom_of claim state) (sym name-is);
+    })
     name-is are)
 
-pub counted : (claim : Claim) (state : Stored) (names : List (List ℕ)) (name : List ℕ) (found new : Differences)
+pub counted : (claim : Claim) (state : Stored) (names : List (List ℕ)) (name : List ℕ) (found new : Differences) (change : Change) (freedom : Freedom) (unfree : Bool)
     → differs claim state name ≡ true → most_listed ≤ length found.listed.items
     → new.listed.items ≡ found.listed.items → new.more ≡ min (found.more + 1) (2 ^ 64 - 1)
+    → change ≡ change_of claim state name → freedom ≡ freedom_by claim state name change → unfree ≡ is_freedom freedom Nothing
+    → new.unlisted ≡ gravest_with found.unlisted change unfree
     → AreListed claim state names found → AreListed claim state (names ++ filter (differs claim state) (name ∷ [])) new
-counted claim state names name found new other full items more are =
+counted claim state names name found new change freedom unfree other full items more change-is freedom-is unfree-is others are =
     subst (λ (b : Bool). AreListed claim state (names ++ cond b (name ∷ []) []) new) (sym other)
-    (one_over claim state names name found new full items more are)
+    (one_over claim state names name found new change unfree full items more change-is
+    (unfree-is ∙ ap (λ (f : Freedom). is_freedom f Nothing) (freedom-is ∙ by_change claim state name change change-is)) others are)
 
 -- those so far, and those that are left behind a name more
 pub on_to : (p : List ℕ → Bool) (so_far all : List (List ℕ)) (items : List (Bor (List ℕ))) (i : ℕ) (d : Bor (List ℕ)) → i < length items

@@ -14,40 +14,40 @@ abbrev names : List UnmetMember → List (List ℕ)
 names found = map (λ (one : UnmetMember). one.member) found
 
 -- one more is named, where there is room
-named : (members : List (List ℕ)) (member : List ℕ) (found new : Selection) (one : UnmetMember)
+named : (claim : Claim) (state : Stored) (members : List (List ℕ)) (member : List ℕ) (found new : Selection) (one : UnmetMember)
     → length found.unmet.items < most_named → new.unmet.items ≡ found.unmet.items ++ one ∷ [] → new.more ≡ found.more
-    → IsMember member one
-    → AreNamed members found → AreNamed (members ++ member ∷ []) new
-named members member found new one room items more is are =
+    → IsMember claim state member one
+    → AreNamed claim state members found → AreNamed claim state (members ++ member ∷ []) new
+named claim state members member found new one room items more is are =
     let same = ap names items ∙ map-append (λ (u : UnmetMember). u.member) found.unmet.items (one ∷ [])
     ∙ ap (λ (m : List ℕ). names found.unmet.items ++ m ∷ []) is.member_is in
     let first = one_named most_named members (names found.unmet.items) found.more member
     (subst (λ (n : ℕ). n < most_named) (sym (length-map found.unmet.items (λ (u : UnmetMember). u.member))) room) are.first in
     record {
-      each = all_more IsTold found.unmet.items new.unmet.items one items
-          (subst (λ (m : List ℕ). IsMember m one) (sym is.member_is) is) are.each;
+      each = all_more (IsTold claim state) found.unmet.items new.unmet.items one items
+          (subst (λ (m : List ℕ). IsMember claim state m one) (sym is.member_is) is) are.each;
       first = record { first = same ∙ first.first; others = more ∙ first.others };
     }
 
 -- one that is unmet is named
 pub taken : (claim : Claim) (state : Stored) (members : List (List ℕ)) (member : List ℕ) (found new : Selection) (one : UnmetMember)
     → is_unmet claim state member ≡ true → length found.unmet.items < most_named
-    → new.unmet.items ≡ found.unmet.items ++ one ∷ [] → new.more ≡ found.more → IsMember member one
-    → AreNamed members found → AreNamed (members ++ filter (is_unmet claim state) (member ∷ [])) new
+    → new.unmet.items ≡ found.unmet.items ++ one ∷ [] → new.more ≡ found.more → IsMember claim state member one
+    → AreNamed claim state members found → AreNamed claim state (members ++ filter (is_unmet claim state) (member ∷ [])) new
 taken claim state members member found new one unmet room items more is are =
-    subst (λ (b : Bool). AreNamed (members ++ cond b (member ∷ []) []) new) (sym unmet)
-    (named members member found new one room items more is are)
+    subst (λ (b : Bool). AreNamed claim state (members ++ cond b (member ∷ []) []) new) (sym unmet)
+    (named claim state members member found new one room items more is are)
 
 -- or counted, where there is no room
 pub counted : (claim : Claim) (state : Stored) (members : List (List ℕ)) (member : List ℕ) (found new : Selection)
     → is_unmet claim state member ≡ true → most_named ≤ length found.unmet.items
     → new.unmet.items ≡ found.unmet.items → new.more ≡ min (found.more + 1) (2 ^ 64 - 1)
-    → AreNamed members found → AreNamed (members ++ filter (is_unmet claim state) (member ∷ [])) new
+    → AreNamed claim state members found → AreNamed claim state (members ++ filter (is_unmet claim state) (member ∷ [])) new
 counted claim state members member found new unmet full items more are =
     let first = one_counted most_named members (names found.unmet.items) found.more member
     (subst (λ (n : ℕ). most_named ≤ n) (sym (length-map found.unmet.items (λ (u : UnmetMember). u.member))) full) are.first in
-    subst (λ (b : Bool). AreNamed (members ++ cond b (member ∷ []) []) new) (sym unmet)
+    subst (λ (b : Bool). AreNamed claim state (members ++ cond b (member ∷ []) []) new) (sym unmet)
     (record {
-      each = subst (λ (all : List UnmetMember). All IsTold all) (sym items) are.each;
+      each = subst (λ (all : List UnmetMember). All (IsTold claim state) all) (sym items) are.each;
       first = record { first = ap names items ∙ first.first; others = more ∙ first.others };
     })

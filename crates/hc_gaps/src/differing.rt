@@ -1,9 +1,11 @@
 //! The fields of which a reply has other values than a stored response.
 
-ghost use Rattle.std.specs.Prelude.{◌≡◌, ◌++◌, List, ℕ, [], ◌∷◌, true, filter, map, IfOk, OnOk};
+ghost use Rattle.std.specs.Prelude.{◌≡◌, ◌++◌, List, ℕ, [], ◌∷◌, true, filter, map, IfOk, OnOk, if◌then◌else◌};
 ghost use Rattle.hc_history.specs.Filters.{compared_names, names_of};
-ghost use Rattle.hc_gaps.specs.Demanding.{change_sections, difference_sections, first_in, free_sections, frees_date, has_become, has_bound, has_bound_date, has_bound_repeated, has_freedom, has_listed, has_renewed, has_unlisted, is_bound, is_repeated, is_undated, renewed_in, renews};
-ghost use Rattle.hc_gaps.specs.Differing.{AreDifferences, AreListed, IsGap, change_of, differs, with_name, with_names};
+ghost use Rattle.hc_gaps.specs.Demanding.{change_sections, difference_sections, first_in, free_sections, frees_date, has_become, has_bound, has_bound_date, has_bound_repeated, has_freedom, has_listed, has_renewed, has_unlisted, is_bound, is_freedom, is_repeated, is_undated, renewed_in, renews};
+ghost use Rattle.hc_gaps.specs.Differing.{AreDifferences, AreListed, IsGap, change_of, differs, freedom_by, graver, gravest_with, is_single, with_name, with_names};
+ghost use Rattle.hc_gaps.specs.declared.differing.Change.TheVariants.{Changed};
+ghost use Rattle.hc_gaps.specs.declared.differing.Freedom.TheVariants.{Nothing};
 
 use crate::forms::{means_the_same, need_not_be_stored};
 use hc_fields::{Field, Fields, Octets, is_among};
@@ -140,6 +142,37 @@ fn change_of(claim: &ReplyClaim<'_>, state: &Stored, name: &[u8]) -> Change
     }
 }
 
+// That, if it is so, and else nothing.
+fn permitted(is_so: bool, freedom: Freedom) -> Freedom
+    ensures { result ≡ (if is_so then freedom else Nothing) }
+{
+    if is_so { freedom } else { Freedom::Nothing }
+}
+
+// Whether the field of that name is no list: it means something by each octet, and each line of Set-Cookie something by itself.
+fn is_single(name: &[u8]) -> bool
+    ensures { result ≡ is_single name.now }
+{
+    is_among(&SINGLE, name)
+}
+
+// What permits that both have a field otherwise.
+fn freedom_of_form(
+    alloc: Global,
+    claim: &ReplyClaim<'_>,
+    state: &Stored,
+    name: &[u8],
+) -> Result<Freedom, AllocError>
+    ensures { IfOk result (λ freedom. freedom ≡ freedom_by claim.now state.now name.now Changed) }
+{
+    if is_single(name) {
+        return Ok(Freedom::Nothing);
+    }
+    let (told, due) = (&claim.reply.head.fields, &state.fields);
+    let is_form = means_the_same(alloc, name, told, due, false)?;
+    Ok(permitted(is_form, Freedom::Form))
+}
+
 // What permits that a field differs of which that became.
 fn freedom_of(
     alloc: Global,
@@ -147,31 +180,55 @@ fn freedom_of(
     state: &Stored,
     name: &[u8],
     change: Change,
-) -> Result<Freedom, AllocError> {
+) -> Result<Freedom, AllocError>
+    ensures { IfOk result (λ freedom. freedom ≡ freedom_by claim.now state.now name.now change) }
+{
     match change {
-        Change::Added if !is_of_content(name) => Ok(Freedom::Addition),
-        Change::Dropped if need_not_be_stored(name, &state.fields) => Ok(Freedom::Named),
-        // What is no list means something by each octet, and each line of Set-Cookie something by itself.
-        Change::Changed if !is_among(&SINGLE, name) => {
-            let both = (&claim.reply.head.fields, &state.fields);
-            if means_the_same(alloc, name, both, false)? {
-                Ok(Freedom::Form)
-            } else {
-                Ok(Freedom::Nothing)
-            }
+        Change::Added => Ok(permitted(!is_of_content(name), Freedom::Addition)),
+        Change::Dropped => {
+            let is_named = need_not_be_stored(name, &state.fields);
+            Ok(permitted(is_named, Freedom::Named))
         }
-        _ => Ok(Freedom::Nothing),
+        Change::Changed => freedom_of_form(alloc, claim, state, name),
     }
 }
 
-// The gravest of what became of fields that aren't listed, and of another one, if nothing permits that: that one was dropped,
-// or else changed.
-fn gravest(before: Option<Change>, change: Change, freedom: Freedom) -> Option<Change> {
-    match (before, change) {
-        _ if freedom != Freedom::Nothing => before,
-        (Some(Change::Dropped), _) => before,
-        (Some(Change::Changed), Change::Added) => before,
-        _ => Some(change),
+impl Change {
+    // The graver of both: that a field was dropped, or else changed.
+    fn graver(self, other: Change) -> Change
+        ensures { result ≡ graver self other }
+    {
+        match self {
+            Change::Dropped => Change::Dropped,
+            Change::Changed => match other {
+                Change::Dropped => Change::Dropped,
+                Change::Changed => Change::Changed,
+                Change::Added => Change::Changed,
+            },
+            Change::Added => other,
+        }
+    }
+}
+
+impl Freedom {
+    // Whether that is nothing.
+    fn is_nothing(self) -> bool
+        ensures { result ≡ is_freedom self Nothing }
+    {
+        self == Freedom::Nothing
+    }
+}
+
+// The gravest of what became of fields that aren't listed, and of another one, if nothing permits that.
+fn gravest(before: Option<Change>, change: Change, is_unfree: bool) -> Option<Change>
+    ensures { result ≡ gravest_with before change is_unfree }
+{
+    if !is_unfree {
+        return before;
+    }
+    match before {
+        None => Some(change),
+        Some(gravest) => Some(gravest.graver(change)),
     }
 }
 
@@ -194,7 +251,7 @@ impl Differences {
         let freedom = freedom_of(alloc, claim, state, name, change)?;
         if MOST_LISTED <= self.listed.len() {
             self.more = self.more.saturating_add(1);
-            self.unlisted = gravest(self.unlisted, change, freedom);
+            self.unlisted = gravest(self.unlisted, change, freedom.is_nothing());
             return Ok(());
         }
         self.listed.push(FieldGap {

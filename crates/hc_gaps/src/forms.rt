@@ -1,5 +1,11 @@
 //! Values that mean the same though they are written in other ways, and fields that a directive names.
 
+ghost use Rattle.std.specs.Prelude.{◌≡◌, ◌||◌, ◌++◌, [], IfOk, OnOk, codes, map, option_copied, if◌then◌else◌};
+ghost use Rattle.std.specs.List.{list_any};
+ghost use Rattle.std.specs.Str.{str_eq_ignore_ascii_case};
+ghost use Rattle.hc_fields.specs.Lists.{is_blank, list_members, members_of};
+ghost use Rattle.hc_gaps.specs.Forms.{argument_in, behind_directive, has_any_case, has_argument, is_bare, is_preference, is_said_of, is_separator, is_space, leaves_out, means_the_same, names_common, need_not_be_stored, place_behind, same_lines, same_meaning, same_members, separates, tight_form, tight_lines, unquoted};
+
 use hc_fields::{Fields, is_among, list_members};
 use std::alloc::{AllocError, Global};
 
@@ -11,6 +17,18 @@ const PREFERENCES: [&[u8]; 4] = [
     b"accept-language",
 ];
 
+fn is_blank(octet: u8) -> bool
+    ensures { result ≡ is_blank octet }
+{
+    octet == b' ' || octet == b'\t'
+}
+
+fn is_separator(octet: u8) -> bool
+    ensures { result ≡ is_separator octet }
+{
+    octet == b',' || octet == b';'
+}
+
 // Where an octet of a value stands.
 #[derive(Clone, Copy)]
 enum Place {
@@ -20,104 +38,179 @@ enum Place {
 }
 
 impl Place {
-    // Where the octet after that one stands.
-    fn after(self, octet: u8) -> Self {
-        match (self, octet) {
-            (Place::Plain, b'"') | (Place::Escaped, _) => Place::Quoted,
-            (Place::Quoted, b'\\') => Place::Escaped,
-            (Place::Quoted, b'"') => Place::Plain,
-            _ => self,
+    // Where the octet behind that one stands.
+    fn behind(self, octet: u8) -> Place
+        ensures { result ≡ place_behind self octet }
+    {
+        match self {
+            Place::Plain if octet == b'"' => Place::Quoted,
+            Place::Plain => Place::Plain,
+            Place::Quoted if octet == b'"' => Place::Plain,
+            Place::Quoted if octet == b'\\' => Place::Escaped,
+            Place::Quoted | Place::Escaped => Place::Quoted,
         }
+    }
+
+    // Whether that octet is a blank outside of quoted strings.
+    fn is_space(self, octet: u8) -> bool
+        ensures { result ≡ is_space self octet }
+    {
+        matches!(self, Place::Plain) && is_blank(octet)
+    }
+
+    // Whether it is a comma or a semicolon there.
+    fn separates(self, octet: u8) -> bool
+        ensures { result ≡ separates self octet }
+    {
+        matches!(self, Place::Plain) && is_separator(octet)
     }
 }
 
-// Puts those octets at the end of none, without the blanks beside commas and semicolons, but for those in quoted strings.
-fn tighten(octets: &[u8], tight: &mut Vec<u8>) -> Result<(), AllocError> {
-    let mut without_blanks: usize = 0;
-    let mut is_behind_separator = true;
+// Those blanks, or none of them where a separator stands before them or behind them.
+fn kept(blanks: &[u8], is_before: bool, is_behind: bool) -> &[u8]
+    ensures { result.now ≡ (if is_before || is_behind then [] else blanks.now) }
+{
+    if is_before || is_behind { b"" } else { blanks }
+}
+
+// Puts those octets at the end, without the blanks beside commas and semicolons, but for those in quoted strings.
+fn tighten(octets: &[u8], tight: &mut Vec<u8>) -> Result<(), AllocError>
+    ensures { OnOk result (tight.new.items ≡ tight.old.items ++ tight_form octets.now) }
+{
+    let mut behind = 0;
+    let mut is_separated = true;
     let mut place = Place::Plain;
-    for octet in octets {
-        let is_plain = matches!(place, Place::Plain);
-        let is_blank = is_plain && (*octet == b' ' || *octet == b'\t');
-        let is_separator = is_plain && (*octet == b',' || *octet == b';');
-        if is_separator {
-            tight.truncate(without_blanks);
+    for (index, octet) in octets.iter().enumerate() {
+        if place.is_space(*octet) {
+            continue;
         }
-        if !is_blank || !is_behind_separator {
-            tight.push(*octet)?;
-        }
-        if !is_blank {
-            without_blanks = tight.len();
-            is_behind_separator = is_separator;
-        }
-        place = place.after(*octet);
+        let is_separator = place.separates(*octet);
+        tight.extend_from_slice(kept(&octets[behind..index], is_separated, is_separator))?;
+        tight.push(*octet)?;
+        behind = index + 1;
+        is_separated = is_separator;
+        place = place.behind(*octet);
     }
-    tight.truncate(without_blanks);
     Ok(())
 }
 
-// What those fields have of a name in lower case, without such blanks, and in lower case if that means the same.
-fn tight_of(
-    alloc: Global,
-    name: &[u8],
-    fields: &Fields,
-    in_any_case: bool,
-) -> Result<Vec<u8>, AllocError> {
+// A value in that form.
+fn tight_form(alloc: Global, octets: &[u8]) -> Result<Vec<u8>, AllocError>
+    ensures { IfOk result (λ tight. tight.items ≡ tight_form octets.now) }
+{
     let mut tight = Vec::new(alloc);
-    if let Some(value) = fields.joined(alloc, name)? {
-        tighten(value.as_slice(), &mut tight)?;
-    }
-    if in_any_case {
-        return tight.as_slice().to_ascii_lowercase(alloc);
-    }
+    tighten(octets, &mut tight)?;
     Ok(tight)
 }
 
-// The things of a list in rising order, each as often as it stands there.
-fn in_order<'a>(alloc: Global, list: &'a [u8]) -> Result<Vec<&'a [u8]>, AllocError> {
+// What those fields have of a name in lower case in that form; nothing where they have none.
+fn tight_lines(alloc: Global, name: &[u8], fields: &Fields) -> Result<Vec<u8>, AllocError>
+    ensures { IfOk result (λ tight. tight.items ≡ tight_lines name.now fields.now) }
+{
+    match fields.joined(alloc, name)? {
+        Some(value) => tight_form(alloc, value.as_slice()),
+        None => Ok(Vec::new(alloc)),
+    }
+}
+
+// The things of a list, in order.
+fn members_in<'a>(alloc: Global, list: &'a [u8]) -> Result<Vec<&'a [u8]>, AllocError>
+    ensures { IfOk result (λ found. map (λ member. member.now) found.items ≡ list_members list.now) }
+{
     let mut members = Vec::new(alloc);
     for member in list_members(list) {
         members.push(member)?;
     }
-    members.sort_unstable();
     Ok(members)
 }
 
 // Whether the same things stand in both lists, each equally often.
-fn have_the_same(alloc: Global, one: &[u8], other: &[u8]) -> Result<bool, AllocError> {
-    let one = in_order(alloc, one)?;
-    let other = in_order(alloc, other)?;
+fn same_members(alloc: Global, one: &[u8], other: &[u8]) -> Result<bool, AllocError>
+    ensures { IfOk result (λ same. same ≡ same_members (list_members one.now) (list_members other.now)) }
+{
+    let mut one = members_in(alloc, one)?;
+    let mut other = members_in(alloc, other)?;
+    one.sort_unstable();
+    other.sort_unstable();
     Ok(one.as_slice() == other.as_slice())
+}
+
+// Whether both values mean the same, of which the blanks that mean nothing are left out: as lists of preferences, or octet by octet.
+fn same_meaning(
+    alloc: Global,
+    is_preference: bool,
+    one: &[u8],
+    other: &[u8],
+) -> Result<bool, AllocError>
+    ensures { IfOk result (λ same. same ≡ same_meaning is_preference one.now other.now) }
+{
+    if !is_preference {
+        return Ok(one == other);
+    }
+    let one = one.to_ascii_lowercase(alloc)?;
+    let other = other.to_ascii_lowercase(alloc)?;
+    same_members(alloc, one.as_slice(), other.as_slice())
+}
+
+// Whether Vary selects by a list of preferences of that name.
+fn is_preference(is_selector: bool, name: &[u8]) -> bool
+    ensures { result ≡ is_preference is_selector name.now }
+{
+    is_selector && is_among(&PREFERENCES, name)
+}
+
+// The same of a name in lower case.
+fn same_lines(
+    alloc: Global,
+    name: &[u8],
+    one: &Fields,
+    other: &Fields,
+    is_selector: bool,
+) -> Result<bool, AllocError>
+    ensures { IfOk result (λ same. same ≡ same_lines name.now one.now other.now is_selector) }
+{
+    if !one.contains(name) {
+        return Ok(false);
+    }
+    if !other.contains(name) {
+        return Ok(false);
+    }
+    let one = tight_lines(alloc, name, one)?;
+    let other = tight_lines(alloc, name, other)?;
+    let is_preference = is_preference(is_selector, name);
+    same_meaning(alloc, is_preference, one.as_slice(), other.as_slice())
 }
 
 /// Whether both have the field, and mean the same by it though it may be written in other ways: with blanks beside commas and
 /// semicolons, or in several lines (RFC 9110 sections 5.3 and 5.6.1). Where Vary selects by it, the order and the case of letters
 /// mean nothing either in a list of preferences (RFC 9111 section 4.1, RFC 9110 section 12.5).
+#[tactic(auto, unfolding(crate::specs::Forms::means_the_same))]
 pub fn means_the_same(
     alloc: Global,
     name: &[u8],
-    (one, other): (&Fields, &Fields),
+    one: &Fields,
+    other: &Fields,
     is_selector: bool,
-) -> Result<bool, AllocError> {
+) -> Result<bool, AllocError>
+    ensures { IfOk result (λ same. same ≡ means_the_same name.now one.now other.now is_selector) }
+{
     let name = name.to_ascii_lowercase(alloc)?;
-    let name = name.as_slice();
-    if !one.contains(name) || !other.contains(name) {
-        return Ok(false);
-    }
-    let is_preference = is_selector && is_among(&PREFERENCES, name);
-    let one = tight_of(alloc, name, one, is_preference)?;
-    let other = tight_of(alloc, name, other, is_preference)?;
-    if is_preference {
-        have_the_same(alloc, one.as_slice(), other.as_slice())
-    } else {
-        Ok(one.as_slice() == other.as_slice())
-    }
+    same_lines(alloc, name.as_slice(), one, other, is_selector)
+}
+
+// Whether both are the same, be letters of either case.
+fn is_same(one: &[u8], other: &[u8]) -> bool
+    ensures { result ≡ str_eq_ignore_ascii_case one.now other.now }
+{
+    one.eq_ignore_ascii_case(other)
 }
 
 // Whether a field of that name, in any case, is among those.
-fn has_any_case(name: &[u8], fields: &Fields) -> bool {
+fn has_any_case(name: &[u8], fields: &Fields) -> bool
+    ensures { result ≡ has_any_case name.now fields.now }
+{
     for line in fields.lines() {
-        if line.name.as_slice().eq_ignore_ascii_case(name) {
+        if is_same(line.name.as_slice(), name) {
             return true;
         }
     }
@@ -125,40 +218,46 @@ fn has_any_case(name: &[u8], fields: &Fields) -> bool {
 }
 
 // An argument without the quotes about it.
-fn unquoted(argument: &[u8]) -> &[u8] {
+fn unquoted(argument: &[u8]) -> &[u8]
+    ensures { result.now ≡ unquoted argument.now }
+{
     match argument {
         [b'"', inner @ .., b'"'] => inner,
         _ => argument,
     }
 }
 
-// Whether one of the fields that an argument names is among both.
-fn has_named(argument: &[u8], one: &Fields, other: &Fields) -> bool {
-    for name in list_members(unquoted(argument)) {
-        if has_any_case(name, one) && has_any_case(name, other) {
-            return true;
-        }
-    }
-    false
-}
-
-// What stands in a member after that directive; none where it begins otherwise.
-fn after_directive<'a>(member: &'a [u8], directive: &[u8]) -> Option<&'a [u8]> {
+// What stands in a member behind that directive; none where it begins otherwise.
+fn behind_directive<'a>(directive: &[u8], member: &'a [u8]) -> Option<&'a [u8]>
+    ensures { option_copied result ≡ behind_directive directive.now member.now }
+{
     let (name, rest) = member.split_at_checked(directive.len())?;
-    if name.eq_ignore_ascii_case(directive) {
+    if is_same(name, directive) {
         Some(rest)
     } else {
         None
     }
 }
 
+// The argument of that directive in a member, if it has one there.
+fn argument_in<'a>(directive: &[u8], member: &'a [u8]) -> Option<&'a [u8]>
+    ensures { option_copied result ≡ argument_in (behind_directive directive.now member.now) }
+{
+    match behind_directive(directive, member)?.split_first()? {
+        (b'=', argument) => Some(argument),
+        _ => None,
+    }
+}
+
 // Whether a member is that directive, said of the field of that name in lower case.
-fn is_said_of(name: &[u8], directive: &[u8], member: &[u8]) -> bool {
-    let Some([b'=', argument @ ..]) = after_directive(member, directive) else {
+fn is_said_of(name: &[u8], directive: &[u8], member: &[u8]) -> bool
+    ensures { result ≡ is_said_of name.now directive.now member.now }
+{
+    let Some(argument) = argument_in(directive, member) else {
         return false;
     };
     for named in list_members(unquoted(argument)) {
-        if named.eq_ignore_ascii_case(name) {
+        if is_same(named, name) {
             return true;
         }
     }
@@ -167,7 +266,10 @@ fn is_said_of(name: &[u8], directive: &[u8], member: &[u8]) -> bool {
 
 /// Whether those of a response say `no-cache` or `private` of the field of that name in lower case, so that a cache need not store
 /// it (RFC 9111 section 3.1).
-pub fn need_not_be_stored(name: &[u8], response: &Fields) -> bool {
+#[tactic(auto, unfolding(crate::specs::Forms::need_not_be_stored))]
+pub fn need_not_be_stored(name: &[u8], response: &Fields) -> bool
+    ensures { result ≡ need_not_be_stored name.now response.now }
+{
     for member in response.members(b"cache-control") {
         if is_said_of(name, b"no-cache", member) || is_said_of(name, b"private", member) {
             return true;
@@ -176,17 +278,63 @@ pub fn need_not_be_stored(name: &[u8], response: &Fields) -> bool {
     false
 }
 
-/// Whether those of a response say that directive of some fields alone, of which the reply to which these belong has none that
-/// the response has (RFC 9111 sections 5.2.2.4 and 5.2.2.7).
-pub fn leaves_out(directive: &[u8], response: &Fields, reply: &Fields) -> bool {
-    let mut is_said = false;
-    for member in response.members(b"cache-control") {
-        match after_directive(member, directive) {
-            Some([]) => return false,
-            Some([b'=', named @ ..]) if has_named(named, response, reply) => return false,
-            Some([b'=', ..]) => is_said = true,
-            _ => {}
+// Whether a member is that directive without an argument.
+fn is_bare(directive: &[u8], member: &[u8]) -> bool
+    ensures { result ≡ is_bare directive.now member.now }
+{
+    match behind_directive(directive, member) {
+        Some(behind) => behind.is_empty(),
+        None => false,
+    }
+}
+
+// Whether a member says that directive of a field that both have.
+fn names_common(directive: &[u8], response: &Fields, reply: &Fields, member: &[u8]) -> bool
+    ensures { result ≡ names_common directive.now response.now reply.now member.now }
+{
+    let Some(argument) = argument_in(directive, member) else {
+        return false;
+    };
+    for named in list_members(unquoted(argument)) {
+        if has_any_case(named, response) && has_any_case(named, reply) {
+            return true;
         }
     }
-    is_said
+    false
+}
+
+// Whether a member is that directive with an argument.
+fn has_argument(directive: &[u8], member: &[u8]) -> bool
+    ensures { result ≡ has_argument directive.now member.now }
+{
+    argument_in(directive, member).is_some()
+}
+
+// Whether those of a response say that directive of some fields.
+fn is_said(directive: &[u8], response: &Fields) -> bool
+    ensures { result ≡ list_any (has_argument directive.now) (members_of (codes "cache-control") response.now) }
+{
+    for member in response.members(b"cache-control") {
+        if has_argument(directive, member) {
+            return true;
+        }
+    }
+    false
+}
+
+/// Whether those of a response say that directive of some fields alone, of which the reply to which these belong has none that
+/// the response has (RFC 9111 sections 5.2.2.4 and 5.2.2.7).
+#[tactic(auto, unfolding(crate::specs::Forms::leaves_out))]
+pub fn leaves_out(directive: &[u8], response: &Fields, reply: &Fields) -> bool
+    ensures { result ≡ leaves_out directive.now response.now reply.now }
+{
+    if !is_said(directive, response) {
+        return false;
+    }
+    for member in response.members(b"cache-control") {
+        if is_bare(directive, member) || names_common(directive, response, reply, member) {
+            return false;
+        }
+    }
+    true
 }

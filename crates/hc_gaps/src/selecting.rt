@@ -63,8 +63,8 @@ pub fn unmet_members(
             found.more = found.more.saturating_add(1);
             continue;
         }
-        let both = (&state.request.fields, &claim.request.fields);
-        let is_form = means_the_same(alloc, member, both, true)?;
+        let (answered, asked) = (&state.request.fields, &claim.request.fields);
+        let is_form = means_the_same(alloc, member, answered, asked, true)?;
         found.unmet.push(UnmetMember {
             member: Octets::from_slice(alloc, member)?,
             is_name: is_token(member) && member != b"*".as_slice(),

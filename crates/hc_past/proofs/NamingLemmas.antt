@@ -24,7 +24,7 @@ use Rattle.hc_history.proofs.FurthestLemmas.{Pass-found, hold_from, passed_up_to
 use Rattle.hc_history.proofs.LiveLemmas.{passed_other}
 use Rattle.hc_history.proofs.StateLemmas.{place_of}
 use Rattle.hc_index.specs.Lists.{state_in}
-use Rattle.hc_past.specs.Naming.{GetsFurthest, HasNone, IsFurthest, IsOneOf, first_after, IsNamed, IsThatOf, named_after, reason_told, rule_of}
+use Rattle.hc_past.specs.Naming.{GetsFurthest, HasNone, IsFurthest, IsOfOneOf, IsOneOf, IsPreferred, first_after, first_with_body, has_all, has_its_body, IsNamed, IsThatOf, named_after, reason_told, rule_of}
 use Rattle.hc_history.specs.declared.reasons.Reason.{Reason}
 use Rattle.hc_history.specs.declared.reasons.Reason.TheVariants as reason
 use Rattle.hc_status.specs.declared.marks.Mark.TheVariants as mark
@@ -117,7 +117,46 @@ is_furthest claim h candidates since one are gets =
           omega (arith, few, first.2);
     }
 
--- and where none is named, none stands behind the position
+-- ---- of those that get as far the first is the newest
+
+no_newer : (a b p q : ℕ) → (ltb b a || (eqb a b && ltb q p)) ≡ true → b ≡ a → q ≤ p
+no_newer a b p q before even = grind (arith, nat_tests)
+
+-- one that passes the test, and gets as far as another one, is no newer
+abbrev NoNewer : (Candidate → Bool) → Candidate → Candidate → Type 0
+NoNewer test first other = test other ≡ true → other.passed ≡ first.passed → other.position ≤ first.position
+
+no_newer_one : (cs : List Candidate) (test : Candidate → Bool) (first : Candidate) → AllPairs (λ one other. is_before one other ≡ true) cs → find test cs ≡ Some first
+    → All (NoNewer test first) cs
+no_newer_one [] test first ordered is = All-nil (NoNewer test first)
+no_newer_one (c ∷ cs) test first ordered is =
+    go (test c) refl is (no_newer_one cs test first (λ i j d lt below. ordered (suc i) (suc j) d (omega (arith, lt)) (omega (arith, below))))
+  where
+    go : (here : Bool) → test c ≡ here → (if here then Some c else find test cs) ≡ Some first
+        → (find test cs ≡ Some first → All (NoNewer test first) cs) → All (NoNewer test first) (c ∷ cs)
+    go true here is later =
+        let same = ap (λ (one : Candidate). one.position) (some_is c first is) in
+        let as_far = ap (λ (one : Candidate). one.passed) (some_is c first is) in
+        All-cons (NoNewer test first) c cs (λ tested even. omega (arith, same))
+        (λ k d lt. λ tested even.
+        let older = no_newer c.passed (get_or cs k d).passed c.position (get_or cs k d).position (ordered 0 (suc k) d (omega arith) (omega (arith, lt)))
+        (even ∙ sym as_far) in
+        omega (arith, same, older))
+    go false here is later = All-cons (NoNewer test first) c cs (λ tested even. absurd (apart tested here)) (later is)
+
+has_parts : (a b c : Bool) → (a && b && c) ≡ true → (a ≡ true) × (b ≡ true) × (c ≡ true)
+has_parts true true true is = (refl, refl, refl)
+has_parts true true false is = cc
+has_parts true false c is = cc
+has_parts false b c is = cc
+
+of_parts : (a b c : Bool) → a ≡ true → b ≡ true → c ≡ true → (a && b && c) ≡ true
+of_parts a b c one two three = rw one (rw two three)
+
+even_is : (a b : ℕ) → (a == b) ≡ true → a ≡ b
+even_is a b is = grind (arith, nat_tests)
+
+-- where none is found, each fails the test
 none_passes : {X : Type 0} (test : X → Bool) (xs : List X) → find test xs ≡ None → All (λ x. test x ≡ false) xs
 none_passes {X} test [] is = All-nil (λ (x : X). test x ≡ false)
 none_passes {X} test (x ∷ xs) is = go (test x) refl is (none_passes test xs)
@@ -127,6 +166,45 @@ none_passes {X} test (x ∷ xs) is = go (test x) refl is (none_passes test xs)
     go true here is later = cc
     go false here is later = All-cons (λ (y : X). test y ≡ false) x xs here (later is)
 
+-- so one with the reply's body is preferred, if it is the first of these
+with_body_preferred : (claim : Claim) (h : List Item) (candidates : List Candidate) (since passed : ℕ) (one : Candidate) → AreCandidates claim h candidates
+    → first_with_body claim h since passed candidates ≡ Some one → IsPreferred claim h since one
+with_body_preferred claim h candidates since passed one are is = λ other is_one behind even.
+    let test = has_all claim h since passed in
+    let known = found (Contains candidates) test candidates (All-contains_itself candidates) in
+    let that = subst (λ (o : Option Candidate). IfSome o (λ c. Contains candidates c × (test c ≡ true))) is known in
+    let parts = has_parts (nat_lt since one.position) (one.passed == passed) (has_its_body claim h one.position) that.1 in
+    let least = All-contains (NoNewer test one) candidates other (no_newer_one candidates test one are.in_order is) (are.all other is_one) in
+    record {
+      body = λ with_it. parts.2;
+      newer = λ same.
+          least (of_parts (nat_lt since other.position) (other.passed == passed) (has_its_body claim h other.position) behind
+          (eq-eqb other.passed passed (even ∙ even_is one.passed passed parts.1)) (same ∙ parts.2)) even;
+    }
+
+-- and else the first
+first_preferred : (claim : Claim) (h : List Item) (candidates : List Candidate) (since : ℕ) (one : Candidate) → AreCandidates claim h candidates
+    → first_after since candidates ≡ Some one → first_with_body claim h since one.passed candidates ≡ None → IsPreferred claim h since one
+first_preferred claim h candidates since one are is none = λ other is_one behind even.
+    let test = has_all claim h since one.passed in
+    let lacks : test other ≡ false =
+    All-contains (λ (c : Candidate). test c ≡ false) candidates other (none_passes test candidates none) (are.all other is_one) in
+    let least = All-contains (NoNewer (λ c. nat_lt since c.position) one) candidates other
+    (no_newer_one candidates (λ c. nat_lt since c.position) one are.in_order is) (are.all other is_one) in
+    record {
+      body = λ with_it.
+          absurd (apart (of_parts (nat_lt since other.position) (other.passed == one.passed) (has_its_body claim h other.position) behind
+          (eq-eqb other.passed one.passed even) with_it) lacks);
+      newer = λ same. least behind even;
+    }
+
+pub named_is_preferred : (claim : Claim) (h : List Item) (candidates : List Candidate) (since : ℕ) (first : Candidate) (other : Option Candidate)
+    → AreCandidates claim h candidates → first_after since candidates ≡ Some first → other ≡ first_with_body claim h since first.passed candidates
+    → IfSome (option_or other (Some first)) (IsPreferred claim h since)
+named_is_preferred claim h candidates since first None are is none = first_preferred claim h candidates since first are is (sym none)
+named_is_preferred claim h candidates since first (Some one) are is other = with_body_preferred claim h candidates since first.passed one are (sym other)
+
+-- and where none is named, none stands behind the position
 pub none_behind : (claim : Claim) (h : List Item) (candidates : List Candidate) (since : ℕ) → AreCandidates claim h candidates → first_after since candidates ≡ None
     → HasNone claim h since
 none_behind claim h candidates since are none = λ other is.
@@ -214,14 +292,15 @@ candidate_is_left claim h c is =
 
 -- one of them is named, and gets as far as any
 pub named_is : (claim : Claim) (h : List Item) (candidates : List Candidate) (since : ℕ) (named : Option Candidate) (nearest : Option Nearest)
-    → AreCandidates claim h candidates → IfSome named (GetsFurthest candidates since) → IfSome nearest (IsThatOf claim h named)
-    → IfSome nearest (IsNamed claim h since)
-named_is claim h candidates since named None are gets that = tt
-named_is claim h candidates since named (Some nearest) are gets that =
+    → AreCandidates claim h candidates → IfSome named (GetsFurthest candidates since) → IfSome named (IsPreferred claim h since)
+    → IfSome nearest (IsThatOf claim h named) → IfSome nearest (IsNamed claim h since)
+named_is claim h candidates since named None are gets preferred that = tt
+named_is claim h candidates since named (Some nearest) are gets preferred that =
     let one = subst (λ (o : Option Candidate). IfSome o (GetsFurthest candidates since)) that.1 gets in
     record {
       candidate = that.0;
       is_furthest = is_furthest claim h candidates since that.0 are one;
+      is_preferred = subst (λ (o : Option Candidate). IfSome o (IsPreferred claim h since)) that.1 preferred;
       is_that = that.2;
     }
 
@@ -236,6 +315,25 @@ pub none_named : (claim : Claim) (h : List Item) (candidates : List Candidate) (
 none_named claim h candidates since None nearest are gets none there is = none_behind claim h candidates since are (none refl)
 none_named claim h candidates since (Some one) nearest are gets none there is =
     absurd (no_none nearest is (there refl (is_furthest claim h candidates since one are gets).is_candidate))
+
+-- whatever list they are of, it is one of them
+pub one_named : (claim : Claim) (h : List Item) (candidates : List Candidate) (since : ℕ) (named : Option Candidate) (nearest : Option Nearest)
+    → IfSome named (GetsFurthest candidates since) → IfSome nearest (IsThatOf claim h named) → IfSome nearest (IsOfOneOf claim h candidates since)
+one_named claim h candidates since named None gets that = tt
+one_named claim h candidates since named (Some nearest) gets that =
+    record {
+      candidate = that.0;
+      gets = subst (λ (o : Option Candidate). IfSome o (GetsFurthest candidates since)) that.1 gets;
+      is_that = that.2;
+    }
+
+-- and where none is, none of the candidates stands behind the position
+pub none_first : (claim : Claim) (h : List Item) (candidates : List Candidate) (since : ℕ) (named : Option Candidate) (nearest : Option Nearest)
+    → All (IsCandidate claim h) candidates → IfSome named (GetsFurthest candidates since) → (named ≡ None → first_after since candidates ≡ None)
+    → (IsSome named → IfSome named (IsCandidate claim h) → IsSome nearest) → nearest ≡ None → first_after since candidates ≡ None
+none_first claim h candidates since None nearest each gets none there is = none refl
+none_first claim h candidates since (Some one) nearest each gets none there is =
+    absurd (no_none nearest is (there refl (All-contains (IsCandidate claim h) candidates one each gets.among)))
 
 number_few : (r : Rule) → reason_number (reason_of r) ≤ filter_count
 number_few rule.Asked = omega arith

@@ -7,11 +7,11 @@ use Rattle.hc_shown.specs.declared.teller.RecordName.{RecordName}
 use Rattle.hc_transcript.specs.Items.{Forward}
 use Rattle.hc_past.specs.Remembered.{EndSeen, answered_by, end_by, ends_with}
 
-taken : {X : Type 0} (b : Bool) (one other : X) → b ≡ true → (if b then one else other) ≡ one
+pub taken : {X : Type 0} (b : Bool) (one other : X) → b ≡ true → (if b then one else other) ≡ one
 taken true one other is = refl
 taken false one other is = absurd cc
 
-passed_over : {X : Type 0} (b : Bool) (one other : X) → b ≡ false → (if b then one else other) ≡ other
+pub passed_over : {X : Type 0} (b : Bool) (one other : X) → b ≡ false → (if b then one else other) ≡ other
 passed_over true one other is = absurd cc
 passed_over false one other is = refl
 

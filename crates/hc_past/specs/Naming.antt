@@ -1,5 +1,5 @@
 -- Which response is named with a reply, and in what it falls short.
-use Rattle.std.specs.Prelude.{◌≡◌, ⊤, ℕ, ◌≤◌, Bool, true, false, nat_lt, find, List, Option, Some, None, IfSome, Contains}
+use Rattle.std.specs.Prelude.{◌≡◌, ⊤, ℕ, ◌≤◌, ◌==◌, ◌&&◌, Bool, true, false, nat_lt, find, List, Option, Some, None, IfSome, Contains}
 use Rattle.std.specs.Option.{option_map}
 use Rattle.hc_transcript.specs.Items.{Item}
 use Rattle.hc_update.specs.declared.stored.Stored.{Stored}
@@ -14,7 +14,7 @@ use Rattle.hc_use.specs.declared.rules.Rule.{Rule}
 use Rattle.hc_use.specs.declared.rules.Rule.TheVariants as rule
 use Rattle.hc_use.specs.declared.stale.Setting.{Setting}
 use Rattle.hc_use.specs.Aging.{IsAgeGap, ttl_gap_of}
-use Rattle.hc_gaps.specs.Contents.{IsContentGap}
+use Rattle.hc_gaps.specs.Contents.{IsContentGap, has_body}
 use Rattle.hc_gaps.specs.Differing.{AreDifferences}
 use Rattle.hc_use.specs.Rules.{IsRuleBehind, reason_of}
 use Rattle.hc_gaps.specs.Selecting.{AreUnmet}
@@ -89,6 +89,23 @@ named_after other claim = 0
 abbrev pub first_after : ℕ → List Candidate → Option Candidate
 first_after since candidates = find (λ one. nat_lt since one.position) candidates
 
+-- whether a response has the reply's body, or the reply none where the request is HEAD; what isn't left has none
+abbrev pub state_has_body : Claim → Option Stored → Bool
+state_has_body claim None = false
+state_has_body claim (Some state) = has_body claim.request.method claim.reply.body state.body
+
+-- whether the response at a position has it, as the history has left it
+abbrev pub has_its_body : Claim → List Item → ℕ → Bool
+has_its_body claim h position = state_has_body claim (state_in position (live_of claim.target h))
+
+-- whether one stands behind that position, gets so far, and has the reply's body
+abbrev pub has_all : Claim → List Item → ℕ → ℕ → Candidate → Bool
+has_all claim h since passed one = nat_lt since one.position && one.passed == passed && has_its_body claim h one.position
+
+-- the first of them that does
+abbrev pub first_with_body : Claim → List Item → ℕ → ℕ → List Candidate → Option Candidate
+first_with_body claim h since passed candidates = find (has_all claim h since passed) candidates
+
 -- it is one of them, stands behind that position, and gets so far
 pub record IsOneOf (candidates : List Candidate) (since passed : ℕ) (one : Candidate) : Type 0 where
   pub among : Contains candidates one
@@ -107,6 +124,16 @@ pub record IsFurthest (claim : Claim) (h : List Item) (since : ℕ) (one : Candi
   pub after : nat_lt since one.position ≡ true
   pub furthest : (other : Candidate) → IsCandidate claim h other → nat_lt since other.position ≡ true → other.passed ≤ one.passed
 
+-- of two that get as far one takes the place of the other: it has the reply's body where the other one has it, and if both have it, or both lack it, it is no older
+pub record IsRather (claim : Claim) (h : List Item) (one other : Candidate) : Type 0 where
+  pub body : has_its_body claim h other.position ≡ true → has_its_body claim h one.position ≡ true
+  pub newer : has_its_body claim h other.position ≡ has_its_body claim h one.position → other.position ≤ one.position
+
+-- it is named rather than any other response that stands there, behind that position, and gets as far
+abbrev pub IsPreferred : Claim → List Item → ℕ → Candidate → Type 0
+IsPreferred claim h since one =
+    (other : Candidate) → IsCandidate claim h other → nat_lt since other.position ≡ true → other.passed ≡ one.passed → IsRather claim h one other
+
 -- none stands behind it
 abbrev pub HasNone : Claim → List Item → ℕ → Type 0
 HasNone claim h since = (other : Candidate) → IsCandidate claim h other → nat_lt since other.position ≡ false
@@ -122,9 +149,16 @@ pub record IsThatCandidate (claim : Claim) (h : List Item) (candidate : Candidat
 abbrev pub IsThatOf : Claim → List Item → Option Candidate → Nearest → Type 0
 IsThatOf claim h named nearest = (candidate : Candidate) × (named ≡ Some candidate) × IsThatCandidate claim h candidate nearest
 
--- it stands in the history at its position, behind that one, is of the claim's target, may be stored, gets as far as any other there, and keeps exactly the rules before
--- the one that is told
+-- it stands in the history at its position, behind that one, is of the claim's target, may be stored, gets as far as any other there, is preferred to those that get as
+-- far, and keeps exactly the rules before the one that is told
 pub record IsNamed (claim : Claim) (h : List Item) (since : ℕ) (nearest : Nearest) : Type 0 where
   pub candidate : Candidate
   pub is_furthest : IsFurthest claim h since candidate
+  pub is_preferred : IsPreferred claim h since candidate
+  pub is_that : IsThatCandidate claim h candidate nearest
+
+-- it is that of one of these candidates, which stands behind that position, and gets as far as the first of them there
+pub record IsOfOneOf (claim : Claim) (h : List Item) (candidates : List Candidate) (since : ℕ) (nearest : Nearest) : Type 0 where
+  pub candidate : Candidate
+  pub gets : GetsFurthest candidates since candidate
   pub is_that : IsThatCandidate claim h candidate nearest

@@ -1,6 +1,8 @@
 //! What is remembered of the records before a reply: how the forwards ended.
 
-ghost use Rattle.std.specs.Prelude.{◌≡◌, ◌&&◌, IfOk, OnOk, bytes_eq, option_copied};
+ghost use Rattle.std.specs.Prelude.{◌≡◌, ◌&&◌, ◌||◌, not, [], None, Some, IfOk, OnOk, bytes_eq, option_and_then, option_copied, if◌then◌else◌};
+ghost use Rattle.hc_use.specs.Forbidding.{forbids_nothing, forbids_of};
+ghost use Rattle.std.specs.Option.{option_map};
 ghost use Rattle.hc_head.specs.Targets.{same_target};
 ghost use Rattle.hc_transcript.specs.Records.{told_in};
 ghost use Rattle.hc_history.specs.Forwarded.{asks_the_same};
@@ -120,7 +122,9 @@ impl Drop for Past {
 }
 
 /// A head in memory of its own, but for how its target is written.
-pub fn copied_request(alloc: Global, head: &RequestHead) -> Result<RequestHead, AllocError> {
+pub fn copied_request(alloc: Global, head: &RequestHead) -> Result<RequestHead, AllocError>
+    ensures { IfOk result (λ copy. copy ≡ record head.now { target = [] }) }
+{
     Ok(RequestHead {
         method: head.method.clone()?,
         target: Octets::new(alloc),
@@ -130,13 +134,22 @@ pub fn copied_request(alloc: Global, head: &RequestHead) -> Result<RequestHead, 
 }
 
 // What forbids to store that answer to that request, if something does.
-fn forbidden_by(request: &RequestHead, answer: &ResponseHead) -> Option<Forbids> {
+fn forbidden_by(request: &RequestHead, answer: &ResponseHead) -> Option<Forbids>
+    ensures { result ≡ (if forbids_nothing (forbids_of request.now answer.now) then None else Some (forbids_of request.now answer.now)) }
+{
     let forbids = what_forbids(request, answer);
     if forbids.is_nothing() {
         None
     } else {
         Some(forbids)
     }
+}
+
+// Whether a target is forgotten, if it was so before, by one that is put among them where it was known, or pushed something out.
+fn has_forgotten(before: bool, is_known: bool, is_pushed: bool) -> bool
+    ensures { result ≡ (before || (not is_known && is_pushed)) }
+{
+    before || (!is_known && is_pushed)
 }
 
 // The record that passed, of that kind.
@@ -152,16 +165,22 @@ fn record_of<I>(passed: &PassedRecord<'_, I>, kind: Kind) -> RecordName
 }
 
 impl Past {
-    ghost use Rattle.std.specs.Prelude.{List, [], ◌∷◌, IsSome};
+    ghost use Rattle.std.specs.Prelude.{◌==◌, ℕ, true, None, Option, List, [], ◌∷◌, IsSome};
+    ghost use Rattle.hc_framing.specs.declared.message.Message.{Message};
+    ghost use Rattle.hc_head.specs.declared.head.ResponseHead.{ResponseHead};
     ghost use Rattle.hc_head.specs.declared.head.Target.{Target};
-    ghost use Rattle.hc_transcript.specs.History.{cause_of, forward_of};
-    ghost use Rattle.hc_transcript.specs.Items.{Item};
+    ghost use Rattle.hc_transcript.specs.History.{cause_of, forward_of, next_position};
+    ghost use Rattle.hc_transcript.specs.Items.{ClientReply, ClientRequest, Item, OriginRequest};
     ghost use Rattle.hc_audit.specs.Hearing.{IsRecordBehind, item_passed};
-    ghost use Rattle.hc_past.specs.Remembered.{EndSeen, IsPastOf, Remembers, answered_by, end_seen, ends_with, named_as};
+    ghost use Rattle.hc_past.specs.Remembered.{EndKnown, EndSeen, HasAsked, IsAlone, IsKnownOf, IsLatestOf, IsPastOf, Remembers, RemembersForbidden, RemembersKnown, RemembersLatest, all_forbidden, all_known_of, all_known_with, answered_by, any_ends_with, end_known, end_seen, ends_with, forbidden_first, forbidden_to, forbidden_with, heads_seen, is_alone, known_with, most_ends, named_as, open_sent, sent_of, short_body, short_end, without_target};
 
     /// Nothing, so far, of that target, of which all is remembered; or of all targets, of which the latest is.
     pub fn new(alloc: Global, only: Option<Target>) -> Result<Self, AllocError>
-        ensures { (target : Target) → only ≡ Some target → IfOk result (IsPastOf target []) }
+        ensures ends { (target : Target) → only ≡ Some target → IfOk result (IsPastOf target []) }
+        ensures asked { (target : Target) → only ≡ Some target → IfOk result (HasAsked target []) }
+        ensures known { (target : Target) → only ≡ Some target → IfOk result (IsKnownOf target []) }
+        ensures latest { only ≡ None → IfOk result (IsLatestOf []) }
+        ensures forbidden { only ≡ None → IfOk result (RemembersForbidden []) }
     {
         let targets = NonZeroUsize::new(MOST_TARGETS).unwrap();
         Ok(Past {
@@ -178,7 +197,9 @@ impl Past {
     }
 
     // Whether what was asked for has the path of the one target, where it is one.
-    fn is_of_one(&self, target: &Target) -> bool {
+    fn is_of_one(&self, target: &Target) -> bool
+        ensures { (one : Target) → self.now.only ≡ Some one → result ≡ bytes_eq target.now.path one.path }
+    {
         match &self.only {
             Some(only) => target.path == only.path,
             None => false,
@@ -187,7 +208,8 @@ impl Past {
 
     // Whether it is remembered how the forwards for that target ended.
     fn is_remembered(&self, target: &Target) -> bool
-        ensures { (one : Target) → self.now.only ≡ Some one → result ≡ bytes_eq target.now.path one.path }
+        ensures one { (one : Target) → self.now.only ≡ Some one → result ≡ bytes_eq target.now.path one.path }
+        ensures all { self.now.only ≡ None → result ≡ true }
     {
         match &self.only {
             Some(only) => target.path == only.path,
@@ -195,22 +217,34 @@ impl Past {
         }
     }
 
-    /// Takes in the next record, which is no reply. It fails only where memory is refused.
+    /// Takes in the next record. It fails only where memory is refused.
     pub fn pass<I: Index>(&mut self, passed: &PassedRecord<'_, I>) -> Result<(), AllocError>
         // Of one target it is the past of all items, if it was that of those before.
-        ensures { (h : List Item) (target : Target) → IsPastOf target h self.old → IsRecordBehind I.seen h passed.now
+        ensures ends { (h : List Item) (target : Target) → IsPastOf target h self.old → IsRecordBehind I.seen h passed.now
             → OnOk result (IsPastOf target (item_passed passed.now ∷ h) self.new) }
+        // So it is with what else is known of the ends.
+        ensures known { (h : List Item) (target : Target) → IsKnownOf target h self.old → IsRecordBehind I.seen h passed.now
+            → OnOk result (IsKnownOf target (item_passed passed.now ∷ h) self.new) }
+        // Of all targets it is so with the latest ends.
+        ensures latest { (h : List Item) → IsLatestOf h self.old → IsRecordBehind I.seen h passed.now → OnOk result (IsLatestOf (item_passed passed.now ∷ h) self.new) }
+        // So it is with the targets of responses that may not be stored.
+        ensures forbidden { (h : List Item) → RemembersForbidden (all_forbidden h) self.old → IsRecordBehind I.seen h passed.now
+            → OnOk result (RemembersForbidden (all_forbidden (item_passed passed.now ∷ h)) self.new) }
+        // So it is with what was asked.
+        ensures asked { (h : List Item) (target : Target) → HasAsked target h self.old → IsRecordBehind I.seen h passed.now
+            → OnOk result (HasAsked target (item_passed passed.now ∷ h) self.new) }
     {
         match &passed.item.of {
             Meaning::OriginRequest { target, .. } => self.take_sent(passed, target),
-            Meaning::ClientRequest { target, request } => {
-                self.take_asked(passed, target, &request.head.fields)
-            }
+            Meaning::ClientRequest { target, request } => self.take_asked(passed, target, request),
             Meaning::OriginResponse(response) => {
                 self.take(passed, Kind::OriginResponse, Some(response))
             }
             Meaning::OriginFailure => self.take(passed, Kind::OriginFailure, None),
-            Meaning::ClientReply(_) => Ok(()),
+            Meaning::ClientReply(_) => {
+                self.answer(passed.item.number, passed.position);
+                Ok(())
+            }
         }
     }
 
@@ -220,13 +254,20 @@ impl Past {
         passed: &PassedRecord<'_, I>,
         target: &Target,
     ) -> Result<(), AllocError>
-        ensures { (one : Target) (ends : List EndSeen) → Remembers one ends self.old → Remembers one ends self.new }
+        ensures ends { (one : Target) (ends : List EndSeen) → Remembers one ends self.old → Remembers one ends self.new }
+        ensures known { (h : List Item) (one : Target) (request : Message RequestHead) (cause : Option ℕ) → IsKnownOf one h self.old → passed.now.position ≡ next_position h
+            → OnOk result (IsKnownOf one (OriginRequest passed.now.item.now.number passed.now.item.now.moment request target.now cause ∷ h) self.new) }
+        ensures latest { (most : ℕ) (ends : List EndSeen) → RemembersLatest most ends self.old → RemembersLatest most ends self.new }
+        ensures forbidden { (all : List (Target × Forbids)) → RemembersForbidden all self.old → RemembersForbidden all self.new }
+        ensures asked { (h : List Item) (one : Target) → HasAsked one h self.old → HasAsked one h self.new }
     {
+        let number = passed.item.number;
         if !self.is_of_one(target) {
+            self.sent.remove(&number);
             return Ok(());
         }
         let named = record_of(passed, Kind::OriginRequest);
-        self.sent.insert(passed.item.number, named)?;
+        self.sent.insert(number, named)?;
         Ok(())
     }
 
@@ -235,18 +276,25 @@ impl Past {
         &mut self,
         passed: &PassedRecord<'_, I>,
         target: &Target,
-        fields: &Fields,
+        request: &Message<RequestHead>,
     ) -> Result<(), AllocError>
-        ensures { (one : Target) (ends : List EndSeen) → Remembers one ends self.old → Remembers one ends self.new }
+        ensures ends { (one : Target) (ends : List EndSeen) → Remembers one ends self.old → Remembers one ends self.new }
+        ensures known { (one : Target) (sent : ℕ → Option RecordName) (known : List EndKnown) → RemembersKnown one sent known self.old → RemembersKnown one sent known self.new }
+        ensures latest { (most : ℕ) (ends : List EndSeen) → RemembersLatest most ends self.old → RemembersLatest most ends self.new }
+        ensures forbidden { (all : List (Target × Forbids)) → RemembersForbidden all self.old → RemembersForbidden all self.new }
+        ensures asked { (h : List Item) (one : Target) → HasAsked one h self.old → passed.now.position ≡ next_position h
+            → OnOk result (HasAsked one (ClientRequest passed.now.item.now.number passed.now.item.now.moment request.now target.now ∷ h) self.new) }
     {
+        let number = passed.item.number;
         if !self.is_of_one(target) {
+            drop(self.asked.remove(&number));
             return Ok(());
         }
         let asked = Asked {
             position: passed.position,
-            fields: fields.copy(self.alloc)?,
+            fields: request.head.fields.copy(self.alloc)?,
         };
-        drop(self.asked.insert(passed.item.number, asked)?);
+        drop(self.asked.insert(number, asked)?);
         Ok(())
     }
 
@@ -261,16 +309,28 @@ impl Past {
 
     /// Takes in a reply to an exchange of the one target.
     pub fn answer(&mut self, exchange: u64, position: u64)
-        ensures { (one : Target) (ends : List EndSeen) → Remembers one ends self.old → Remembers one ends self.new }
+        ensures ends { (one : Target) (ends : List EndSeen) → Remembers one ends self.old → Remembers one ends self.new }
+        ensures known { (one : Target) (sent : ℕ → Option RecordName) (known : List EndKnown) → RemembersKnown one sent known self.old → RemembersKnown one sent known self.new }
+        ensures latest { (most : ℕ) (ends : List EndSeen) → RemembersLatest most ends self.old → RemembersLatest most ends self.new }
+        ensures forbidden { (all : List (Target × Forbids)) → RemembersForbidden all self.old → RemembersForbidden all self.new }
+        ensures asked { (h : List Item) (one : Target) (moment : ℕ) (reply : Message ResponseHead) → HasAsked one h self.old → position ≡ next_position h
+            → HasAsked one (ClientReply exchange moment reply ∷ h) self.new }
     {
-        if self.asked.remove(&exchange).is_some() {
-            self.answered = position;
+        if self.asked.remove(&exchange).is_none() {
+            return;
         }
+        self.answered = position;
     }
 
     /// Whether no exchange of the one target but the one whose request stands at that position has been open since.
-    pub fn is_alone(&self, since: u64) -> bool {
-        self.answered < since && self.asked.len() <= 1
+    pub fn is_alone(&self, since: u64) -> bool
+        ensures exact { result ≡ is_alone since self.now }
+        // In the history none is open but one, and none was answered since.
+        ensures alone { (h : List Item) (target : Target) → HasAsked target h self.now → result ≡ true → IsAlone target.path since h }
+        ensures apart { (h : List Item) (target : Target) → HasAsked target h self.now → IsAlone target.path since h → result ≡ true }
+    {
+        let waiting = self.asked.len();
+        self.answered < since && waiting <= 1
     }
 
     // Takes in the end of a forward: that response, or a failure.
@@ -280,7 +340,16 @@ impl Past {
         kind: Kind,
         response: Option<&Message<ResponseHead>>,
     ) -> Result<(), AllocError>
-        ensures { (h : List Item) (one : Target) (ends : List EndSeen) → Remembers one ends self.old → IsRecordBehind I.seen h passed.now
+        ensures asked { (h : List Item) (one : Target) → HasAsked one h self.old → HasAsked one h self.new }
+        ensures forbidden { (h : List Item) (all : List (Target × Forbids)) → RemembersForbidden all self.old → IsRecordBehind I.seen h passed.now
+            → OnOk result (RemembersForbidden (forbidden_to (option_copied response.entry) (forward_of passed.now.item.now.number h) all) self.new) }
+        ensures known { (h : List Item) (one : Target) → IsKnownOf one h self.old → IsRecordBehind I.seen h passed.now
+            → OnOk result (RemembersKnown one (λ f. if passed.now.item.now.number == f then None else open_sent one.path h f)
+            (all_known_with one.path (sent_of passed.now.item.now.number h) (option_copied response.entry) (forward_of passed.now.item.now.number h) (all_known_of one.path h)) self.new) }
+        ensures latest { (h : List Item) (ends : List EndSeen) → RemembersLatest most_ends ends self.old → IsRecordBehind I.seen h passed.now
+            → OnOk result (RemembersLatest most_ends (any_ends_with (named_as kind passed.now.position passed.now.item.now.number passed.now.item.now.moment)
+            (cause_of passed.now.item.now.number h) (option_copied response.entry) (forward_of passed.now.item.now.number h) ends) self.new) }
+        ensures ends { (h : List Item) (one : Target) (ends : List EndSeen) → Remembers one ends self.old → IsRecordBehind I.seen h passed.now
             → OnOk result (Remembers one (ends_with one.path (named_as kind passed.now.position passed.now.item.now.number passed.now.item.now.moment) (cause_of passed.now.item.now.number h) (option_copied response.entry)
             (forward_of passed.now.item.now.number h) ends) self.new) }
     {
@@ -307,6 +376,13 @@ impl Past {
         response: Option<&Message<ResponseHead>>,
     ) -> Result<(), AllocError>
         ensures kept { (one : Target) (ends : List EndSeen) → Remembers one ends self.old → Remembers one ends self.new }
+        ensures known { (one : Target) (sent : ℕ → Option RecordName) (known : List EndKnown) → RemembersKnown one sent known self.old → RemembersKnown one sent known self.new }
+        ensures latest { (most : ℕ) (ends : List EndSeen) → RemembersLatest most ends self.old → RemembersLatest most ends self.new }
+        ensures forbidden { (all : List (Target × Forbids)) → RemembersForbidden all self.old
+            → OnOk result (RemembersForbidden (forbidden_with end.old.target request.now (option_copied response.entry) all) self.new) }
+        ensures asked { (h : List Item) (one : Target) → HasAsked one h self.old → HasAsked one h self.new }
+        ensures short { self.old.only ≡ None → end.old.body ≡ None → OnOk result (end_seen end.new ≡ short_end (answered_by (option_copied response.entry) (end_seen end.old))) }
+        ensures heads { IsSome self.old.only → OnOk result (end_known end.new ≡ known_with request.now (option_copied response.entry) (end_known end.old)) }
         ensures taken { IsSome self.old.only → OnOk result (end_seen end.new ≡ answered_by (option_copied response.entry) (end_seen end.old)) }
     {
         let Some(response) = response else {
@@ -323,12 +399,13 @@ impl Past {
 
     // The body of an answer, if it is remembered: of one target each is, and else one that isn't too long.
     fn remembered_body(&self, body: &SharedOctets) -> Result<Option<SharedOctets>, AllocError>
-        ensures { IsSome self.now.only → IfOk result (λ remembered. remembered ≡ Some body.now) }
+        ensures one { IsSome self.now.only → IfOk result (λ remembered. remembered ≡ Some body.now) }
+        ensures all { self.now.only ≡ None → IfOk result (λ remembered. remembered ≡ short_body (Some body.now)) }
     {
-        if self.only.is_some() || body.len() <= LONGEST_BODY {
-            return Ok(Some(body.share()?));
+        if self.only.is_none() && LONGEST_BODY < body.len() {
+            return Ok(None);
         }
-        Ok(None)
+        Ok(Some(body.share()?))
     }
 
     // The heads, if they are remembered.
@@ -337,7 +414,9 @@ impl Past {
         cause: Option<u64>,
         request: &RequestHead,
         head: &ResponseHead,
-    ) -> Result<Option<Heads>, AllocError> {
+    ) -> Result<Option<Heads>, AllocError>
+        ensures { IsSome self.now.only → IfOk result (λ heads. heads_seen heads ≡ Some (record { forward = without_target request.now; response = head.now })) }
+    {
         if self.only.is_none() {
             return Ok(None);
         }
@@ -358,21 +437,33 @@ impl Past {
 
     // Takes in what forbids to store the latest response of a target, if something does.
     fn forbid(&mut self, target: &Target, forbids: Option<Forbids>) -> Result<(), AllocError>
-        ensures { (one : Target) (ends : List EndSeen) → Remembers one ends self.old → Remembers one ends self.new }
+        ensures only { self.new.only ≡ self.old.only }
+        ensures asked { (h : List Item) (one : Target) → HasAsked one h self.old → HasAsked one h self.new }
+        ensures ends { (one : Target) (ends : List EndSeen) → Remembers one ends self.old → Remembers one ends self.new }
+        ensures known { (one : Target) (sent : ℕ → Option RecordName) (known : List EndKnown) → RemembersKnown one sent known self.old → RemembersKnown one sent known self.new }
+        ensures latest { (most : ℕ) (ends : List EndSeen) → RemembersLatest most ends self.old → RemembersLatest most ends self.new }
+        ensures forbidden { (all : List (Target × Forbids)) → RemembersForbidden all self.old
+            → OnOk result (RemembersForbidden (forbidden_first target.now forbids all) self.new) }
     {
         let Some(forbids) = forbids else {
             return Ok(());
         };
-        let is_new = !self.forbidden.contains(target);
+        let is_known = self.forbidden.contains(target);
         let target = target.copy(self.alloc)?;
         let forgotten = self.forbidden.push(target, forbids)?;
-        self.has_forgotten_target = self.has_forgotten_target || (is_new && forgotten.is_some());
+        let is_pushed = forgotten.is_some();
+        self.has_forgotten_target = has_forgotten(self.has_forgotten_target, is_known, is_pushed);
         Ok(())
     }
 
     // Forgets the oldest end where as many are remembered as may be, of all targets.
     fn make_room(&mut self)
-        ensures { (one : Target) (ends : List EndSeen) → Remembers one ends self.old → Remembers one ends self.new }
+        ensures asked { (h : List Item) (one : Target) → HasAsked one h self.old → HasAsked one h self.new }
+        ensures ends { (one : Target) (ends : List EndSeen) → Remembers one ends self.old → Remembers one ends self.new }
+        ensures forbidden { (all : List (Target × Forbids)) → RemembersForbidden all self.old → RemembersForbidden all self.new }
+        ensures known { (one : Target) (sent : ℕ → Option RecordName) (known : List EndKnown) → RemembersKnown one sent known self.old → RemembersKnown one sent known self.new }
+        // Then there is room for one more.
+        ensures latest { (ends : List EndSeen) → RemembersLatest most_ends ends self.old → RemembersLatest 1023 ends self.new }
     {
         if self.only.is_some() {
             return;
@@ -380,15 +471,16 @@ impl Past {
         if self.ends.len() < MOST_ENDS {
             return;
         }
-        if let Some(oldest) = self.ends.pop_front() {
-            self.forgotten = oldest.named.position;
-        }
+        let Some(oldest) = self.ends.pop_front() else {
+            return;
+        };
+        self.forgotten = oldest.named.position;
     }
 }
 
 impl End {
     ghost use Rattle.hc_index.specs.Lists.{forward_seen};
-    ghost use Rattle.hc_past.specs.Remembered.{carries_answer, end_by, end_seen, is_error_by_status, may_answer};
+    ghost use Rattle.hc_past.specs.Remembered.{carries_answer, end_by, end_known, end_seen, fields_in, has_field, is_error_by_status, is_given, is_in_window, is_ok_to_head, may_answer};
 
     // That of an open forward, of which no answer is known yet.
     fn begun(
@@ -397,7 +489,8 @@ impl End {
         sent: Option<RecordName>,
         forward: &OpenForward,
     ) -> Result<Self, AllocError>
-        ensures { IfOk result (λ end. end_seen end ≡ end_by named forward.now.cause None (forward_seen forward.now)) }
+        ensures seen { IfOk result (λ end. end_seen end ≡ end_by named forward.now.cause None (forward_seen forward.now)) }
+        ensures known { IfOk result (λ end. end_known end ≡ record { sent = sent; forbids = None; heads = None }) }
     {
         Ok(End {
             named,
@@ -434,7 +527,9 @@ impl End {
     }
 
     /// Whether the answer is known to have that field.
-    pub fn has(&self, name: &[u8]) -> bool {
+    pub fn has(&self, name: &[u8]) -> bool
+        ensures { result ≡ has_field name.now (fields_in self.now.heads) }
+    {
         match &self.heads {
             Some(heads) => heads.response.fields.contains(name),
             None => false,
@@ -442,18 +537,24 @@ impl End {
     }
 
     /// Whether it stands between the request and the reply that claims that.
-    pub(crate) fn is_in_window(&self, claim: &ReplyClaim<'_>) -> bool {
+    pub(crate) fn is_in_window(&self, claim: &ReplyClaim<'_>) -> bool
+        ensures { result ≡ is_in_window claim.now (end_seen self.now) }
+    {
         claim.since < self.named.position && self.is_of(claim.target)
     }
 
     /// Whether the reply has its status and its body, or no body where it answers HEAD.
-    pub fn is_given(&self, claim: &ReplyClaim<'_>) -> bool {
+    pub fn is_given(&self, claim: &ReplyClaim<'_>) -> bool
+        ensures { result ≡ is_given claim.now (end_seen self.now) }
+    {
+        let Some(status) = self.status else {
+            return false;
+        };
         let Some(body) = &self.body else {
             return false;
         };
         let told = claim.reply.body.as_slice();
-        self.status == Some(claim.reply.head.status)
-            && has_body(&claim.request.method, told, body.as_slice())
+        claim.reply.head.status == status && has_body(&claim.request.method, told, body.as_slice())
     }
 
     // Whether what is known of the answer is what the reply carries.
@@ -496,12 +597,19 @@ impl End {
     }
 
     /// Whether it is a 200 to HEAD.
-    pub fn is_ok_to_head(&self) -> bool {
-        is_head(&self.method) && self.status == Some(StatusCode::OK)
+    pub fn is_ok_to_head(&self) -> bool
+        ensures { result ≡ is_ok_to_head (end_seen self.now) }
+    {
+        let Some(status) = self.status else {
+            return false;
+        };
+        is_head(&self.method) && status == StatusCode::OK
     }
 }
 
 /// The fields of an answer, if there is one of which they are remembered.
-pub fn fields_of(end: Option<&End>) -> Option<&Fields> {
+pub fn fields_of(end: Option<&End>) -> Option<&Fields>
+    ensures { option_copied result ≡ option_map (λ heads. heads.response.fields) (option_and_then (λ end. end.heads) (option_copied end.entry)) }
+{
     Some(&end?.heads.as_ref()?.response.fields)
 }

@@ -1,12 +1,13 @@
 //! In what a stored response falls short of what a reply carries: one thing for each rule; and which response is named.
 
-ghost use Rattle.std.specs.Prelude.{◌≡◌, List, find, nat_lt, None, IfOk, IfSome, IsSome};
+ghost use Rattle.std.specs.Prelude.{◌≡◌, ◌||◌, not, true, List, find, nat_lt, None, IfOk, IfSome, IsSome};
 ghost use Rattle.std.specs.Option.{option_copied, option_map};
 ghost use Rattle.hc_transcript.specs.Items.{Item};
 ghost use Rattle.hc_transcript.specs.declared.format.Format.{Format};
-ghost use Rattle.hc_history.specs.Candidates.{IsCandidate};
+ghost use Rattle.hc_history.specs.Candidates.{AreCandidates, IsCandidate};
 ghost use Rattle.hc_history.specs.Seen.{IsSeenAs};
-ghost use Rattle.hc_past.specs.Naming.{GetsFurthest, IsOneOf, IsShortfall, IsThatOf, first_after, rule_of, setting_by, shortfall_in};
+ghost use Rattle.hc_rules.specs.Validators.{has_validator};
+ghost use Rattle.hc_past.specs.Naming.{GetsFurthest, IsOneOf, IsPreferred, IsShortfall, IsThatOf, first_after, first_with_body, has_all, has_its_body, rule_of, setting_by, shortfall_in};
 
 use hc_gaps::{ContentGap, Differences, Selection, compare, content_gap, has_body, unmet_members};
 use hc_history::{Candidate, ReplyClaim};
@@ -209,12 +210,16 @@ impl<'a> Nearest<'a> {
     }
 
     /// Whether it has something by which a 304 may validate it.
-    pub fn has_validator(&self) -> bool {
+    pub fn has_validator(&self) -> bool
+        ensures { result ≡ has_validator self.now.state.now.fields }
+    {
         tag(&self.state.fields).is_some() || last_modified(&self.state.fields).is_some()
     }
 
     // Whether all of it is left: not of an invalidated one that nothing may validate any more.
-    pub fn is_whole(&self) -> bool {
+    pub fn is_whole(&self) -> bool
+        ensures { result ≡ (not self.now.state.now.invalid || has_validator self.now.state.now.fields) }
+    {
         !self.state.invalid || self.has_validator()
     }
 }
@@ -238,7 +243,9 @@ pub fn setting_of(nearest: Option<&Nearest<'_>>) -> Option<Setting>
 }
 
 // Whether the response at that position has the body of the reply.
-fn has_its_body<I: Index>(index: &I, claim: &ReplyClaim<'_>, position: u64) -> bool {
+fn has_its_body<I: Index>(index: &I, claim: &ReplyClaim<'_>, position: u64) -> bool
+    ensures { (format : Format) (h : List Item) → IsSeenAs format (I.seen index.now) h → result ≡ has_its_body claim.now h position }
+{
     match index.response(claim.target, position) {
         Some(state) => has_body(
             &claim.request.method,
@@ -256,6 +263,21 @@ fn first_after(candidates: &[Candidate], since: u64) -> Option<&Candidate>
     candidates.iter().find(|one| since < one.position)
 }
 
+// Whether a candidate stands after a position, gets so far, and has the body of the reply.
+fn has_all<I: Index>(
+    index: &I,
+    claim: &ReplyClaim<'_>,
+    since: u64,
+    passed: u32,
+    one: &Candidate,
+) -> bool
+    ensures after { result ≡ true → nat_lt since one.now.position ≡ true }
+    ensures gets { result ≡ true → one.now.passed ≡ passed }
+    ensures exact { (format : Format) (h : List Item) → IsSeenAs format (I.seen index.now) h → result ≡ has_all claim.now h since passed one.now }
+{
+    since < one.position && one.passed == passed && has_its_body(index, claim, one.position)
+}
+
 // The first candidate after a position that gets so far, and has the body of the reply.
 fn first_with_body<I: Index>(
     index: &I,
@@ -264,11 +286,12 @@ fn first_with_body<I: Index>(
     since: u64,
     passed: u32,
 ) -> Option<Candidate>
-    ensures { IfSome result (IsOneOf candidates.now since passed) }
+    ensures one_of { IfSome result (IsOneOf candidates.now since passed) }
+    ensures first { (format : Format) (h : List Item) → IsSeenAs format (I.seen index.now) h
+        → result ≡ first_with_body claim.now h since passed candidates.now }
 {
-    for one in candidates {
-        let gets_as_far = since < one.position && one.passed == passed;
-        if gets_as_far && has_its_body(index, claim, one.position) {
+    'candidates: for one in candidates {
+        if has_all(index, claim, since, passed, one) {
             return Some(*one);
         }
     }
@@ -277,7 +300,7 @@ fn first_with_body<I: Index>(
 
 /// The candidate that is named of those after a position: of those that get furthest the one with the reply's
 /// body, and of these the newest.
-#[tactic(auto, using(crate::proofs::NamingLemmas::named_gets))]
+#[tactic(auto, using(crate::proofs::NamingLemmas::named_gets, crate::proofs::NamingLemmas::named_is_preferred))]
 pub fn named<I: Index>(
     index: &I,
     claim: &ReplyClaim<'_>,
@@ -285,6 +308,9 @@ pub fn named<I: Index>(
     since: u64,
 ) -> Option<Candidate>
     ensures some { IfSome result (GetsFurthest candidates.now since) }
+    // Of the candidates in order it is the one with the reply's body, or else the newest.
+    ensures preferred { (format : Format) (h : List Item) → IsSeenAs format (I.seen index.now) h → AreCandidates claim.now h candidates.now
+        → IfSome result (IsPreferred claim.now h since) }
     ensures none { result ≡ None → first_after since candidates.now ≡ None }
 {
     let furthest = *first_after(candidates, since)?;

@@ -1,6 +1,8 @@
 //! What came between a request and its reply.
 
-ghost use Rattle.std.specs.Prelude.{◌≡◌};
+ghost use Rattle.std.specs.Prelude.{◌≡◌, ◌==◌, ◌||◌};
+ghost use Rattle.hc_head.specs.Statuses.{partial_content};
+ghost use Rattle.hc_history.specs.Ranges.{range_not_satisfiable};
 ghost use Rattle.hc_history.specs.Forwarded.{asks_the_same};
 
 use crate::past::{End, Past};
@@ -54,7 +56,9 @@ pub(crate) fn asks_the_same(claim: &ReplyClaim<'_>, method: &Method) -> bool
 }
 
 /// Whether a reply of that status is a part, or says that there is none.
-pub fn is_of_part(status: StatusCode) -> bool {
+pub fn is_of_part(status: StatusCode) -> bool
+    ensures { result ≡ (status == partial_content || status == range_not_satisfiable) }
+{
     status == StatusCode::PARTIAL_CONTENT || status == StatusCode::RANGE_NOT_SATISFIABLE
 }
 

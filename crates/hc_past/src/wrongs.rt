@@ -1,13 +1,13 @@
 //! What is wrong with a reply.
 
-ghost use Rattle.std.specs.Prelude.{◌≡◌, List, Some, None, IfOk, IfSome};
+ghost use Rattle.std.specs.Prelude.{◌≡◌, All, List, Some, None, IfOk, IfSome};
 ghost use Rattle.hc_transcript.specs.declared.format.Format.{Format};
 ghost use Rattle.hc_transcript.specs.Items.{Item};
-ghost use Rattle.hc_history.specs.Candidates.{AreCandidates};
+ghost use Rattle.hc_history.specs.Candidates.{AreCandidates, IsCandidate};
 ghost use Rattle.hc_history.specs.Names.{reason_number};
 ghost use Rattle.hc_history.specs.Reused.{IsFirstFailed};
 ghost use Rattle.hc_history.specs.Seen.{IsSeenAs};
-ghost use Rattle.hc_past.specs.Naming.{HasNone, IsNamed, named_after, names_response, reason_told};
+ghost use Rattle.hc_past.specs.Naming.{HasNone, IsNamed, IsOfOneOf, first_after, named_after, names_response, reason_told};
 
 use crate::past::{End, Past};
 use crate::shortfalls::{Nearest, Shortfall, named, shortfall_of};
@@ -194,7 +194,7 @@ fn named_after(reason: Reason, claim: &ReplyClaim<'_>) -> u64
 impl<'a> Wrong<'a> {
     /// What is wrong with a reply for that reason, of which those are the candidates, by what is remembered of the
     /// records before it. It fails only where memory is refused.
-    #[tactic(auto, using(crate::proofs::NamingLemmas::named_is, crate::proofs::NamingLemmas::none_named, crate::proofs::NamingLemmas::breaks_wrong))]
+    #[tactic(auto, using(crate::proofs::NamingLemmas::named_is, crate::proofs::NamingLemmas::none_named, crate::proofs::NamingLemmas::breaks_wrong, crate::proofs::NamingLemmas::one_named))]
     pub fn read<I: Index>(
         alloc: Global,
         index: &'a I,
@@ -209,6 +209,12 @@ impl<'a> Wrong<'a> {
         // None is named only where none stands there.
         ensures there { (format : Format) (h : List Item) → IsSeenAs format (I.seen index.now) h → AreCandidates claim.now h candidates.now
             → IfOk result (λ wrong. wrong.nearest ≡ None → HasNone claim.now h (named_after reason claim.now)) }
+        // Whatever list is handed in, it is that of one of these, which gets as far as the first of them.
+        ensures told { (format : Format) (h : List Item) → IsSeenAs format (I.seen index.now) h
+            → IfOk result (λ wrong. IfSome wrong.nearest (IsOfOneOf claim.now h candidates.now (named_after reason claim.now))) }
+        // None is named of candidates only where none of these stands there.
+        ensures first { (format : Format) (h : List Item) → IsSeenAs format (I.seen index.now) h → All (IsCandidate claim.now h) candidates.now
+            → IfOk result (λ wrong. wrong.nearest ≡ None → first_after (named_after reason claim.now) candidates.now ≡ None) }
         // It breaks the rule by which a hit is wrong.
         ensures breaks { (format : Format) (h : List Item) → IsSeenAs format (I.seen index.now) h → AreCandidates claim.now h candidates.now
             → IsFirstFailed (reason_number reason) claim.now h → IfOk result (λ wrong. IfSome wrong.nearest (λ nearest. reason_told nearest ≡ Some reason)) }

@@ -1,5 +1,6 @@
 -- How stale a response may be served (RFC 9111 section 4.2.4, RFC 5861), and which setting of an audit would permit more.
 use Rattle.std.specs.Prelude.{ℕ, List, Bool, ◌&&◌, ◌||◌, ◌+◌, ◌-◌, ◌^◌, not, max, min, nat_lt, true, false, Option, Some, None, codes, if◌then◌else◌}
+use Rattle.std.specs.Option.{option_map}
 use Rattle.hc_directives.specs.declared.cache_control.Seconds.{Seconds}
 use Rattle.hc_directives.specs.declared.cache_control.Seconds.TheVariants.{Absent, Bare, Value, Unreadable}
 use Rattle.hc_fields.specs.declared.fields.Field.{Field}
@@ -12,6 +13,8 @@ use Rattle.hc_history.specs.declared.settings.UnmarkedReplies.TheVariants.{Allow
 use Rattle.hc_history.specs.Claims.{Claim}
 use Rattle.hc_history.specs.Allowing.{allowed_staleness}
 use Rattle.hc_history.specs.Usable.{age_of, lifetime_of, meanwhile_permits, permits, request_permits}
+use Rattle.hc_use.specs.declared.stale.Excess.{Excess}
+use Rattle.hc_use.specs.declared.stale.Excess.TheVariants.{By, NoError}
 use Rattle.hc_use.specs.declared.stale.Setting.{Setting}
 use Rattle.hc_use.specs.declared.stale.Setting.TheVariants.{AddedFields, AgeSlack, All, DefaultLifetime, Grace, InferredMarks, JoinedLines, Ranges, Slack, Unmarked}
 use Rattle.hc_use.specs.declared.stale.StaleSaid.{StaleSaid}
@@ -90,6 +93,18 @@ tolerated claim state =
     (if claim.has_error || claim.has_failure
     then greater (ever_tolerated claim (stale_said_of claim state)) (greater (seconds_in (stale_said_of claim state).if_error) (seconds_in (stale_said_of claim state).asked_if_error))
     else ever_tolerated claim (stale_said_of claim state))
+
+-- ---- by how much a response is staler than a directive permits (RFC 9111 sections 4.2.4 and 5.2.1.2, RFC 5861 sections 3 and 4)
+
+-- by how many seconds one that is so stale is over that many; what permits it on an error permits nothing where none came
+abbrev pub over_seconds : ℕ → Bool → ℕ → Bool → Excess
+over_seconds permitted on_error stale had_error =
+    if on_error && not had_error then NoError permitted else By (stale - permitted) permitted
+
+-- the same of a directive, where it says a number
+abbrev pub over_of : Seconds → Bool → ℕ → Bool → Option Excess
+over_of said on_error stale had_error =
+    option_map (λ permitted. over_seconds permitted on_error stale had_error) (seconds_in said)
 
 -- ---- the settings
 

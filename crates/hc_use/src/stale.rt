@@ -2,7 +2,7 @@
 //! would permit more.
 
 ghost use Rattle.std.specs.Prelude.{◌≡◌, min};
-ghost use Rattle.hc_use.specs.Stale.{greater, most_seconds, seconds_in, settings_with, stale_said_of, takes_lifetime, tolerated, told_setting};
+ghost use Rattle.hc_use.specs.Stale.{greater, most_seconds, over_of, seconds_in, settings_with, stale_said_of, takes_lifetime, tolerated, told_setting};
 
 use crate::usage::seconds;
 use hc_directives::Seconds;
@@ -22,6 +22,15 @@ pub struct StaleSaid {
     pub while_revalidating: Seconds,
     pub if_error: Seconds,
     pub asked_if_error: Seconds,
+}
+
+/// How a stale response is over what a directive permits.
+#[derive(Clone, Copy)]
+enum Excess {
+    /// By so many seconds, where so many are permitted.
+    By(u32, u32),
+    /// So many are permitted on an error, and none came.
+    NoError(u32),
 }
 
 /// A setting by which an audit lets more pass, with its seconds.
@@ -212,6 +221,22 @@ pub(crate) fn number_in(said: Seconds) -> Option<u64> {
     seconds(seconds_in(said))
 }
 
+// How a response that is so stale is over what a directive permits, which may do so on an error alone, if it says a number.
+fn over(said: Seconds, is_on_error: bool, stale: u32, had_error: bool) -> Option<Excess>
+    ensures { result ≡ over_of said is_on_error stale had_error }
+{
+    match said {
+        Seconds::Value(permitted) => {
+            if is_on_error && !had_error {
+                Some(Excess::NoError(permitted))
+            } else {
+                Some(Excess::By(stale.saturating_sub(permitted), permitted))
+            }
+        }
+        Seconds::Absent | Seconds::Bare | Seconds::Unreadable => None,
+    }
+}
+
 impl StaleSaid {
     /// Tells the seconds of each directive to an object.
     pub(crate) fn tell<T: Teller>(&self, teller: &mut T) {
@@ -236,16 +261,19 @@ impl StaleSaid {
     /// Tells by how much a response that is so stale is staler than each number permits, or that there was no error for it.
     pub(crate) fn say_over<T: Teller>(&self, stale: u32, had_error: bool, teller: &mut T) {
         for (said, name, of_message, is_on_error) in self.rows() {
-            let Seconds::Value(seconds) = said else {
-                continue;
+            let permitted = match over(said, is_on_error, stale, had_error) {
+                Some(Excess::By(over, permitted)) => {
+                    teller.count("; ", u64::from(over), " over ");
+                    permitted
+                }
+                Some(Excess::NoError(permitted)) => {
+                    teller.words("; no error for ");
+                    permitted
+                }
+                None => continue,
             };
-            if is_on_error && !had_error {
-                teller.words("; no error for ");
-            } else {
-                teller.count("; ", u64::from(stale.saturating_sub(seconds)), " over ");
-            }
             teller.words(name);
-            teller.count(" ", u64::from(seconds), of_message);
+            teller.count(" ", u64::from(permitted), of_message);
         }
     }
 }

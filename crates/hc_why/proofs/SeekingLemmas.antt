@@ -7,13 +7,14 @@ use Rattle.hc_history.specs.declared.reasons.Reason.{Reason}
 use Rattle.hc_history.specs.declared.verdicts.Finding.{Finding}
 use Rattle.hc_history.specs.declared.verdicts.Finding.TheVariants.{Right, Wrong}
 use Rattle.hc_history.specs.declared.wrong.WrongReply.{WrongReply}
+use Rattle.hc_audit.specs.Hearing.{is_reply}
 use Rattle.hc_audit.specs.Told.{wrong_of}
 use Rattle.hc_why.specs.declared.found.FoundReply.{FoundReply}
 use Rattle.hc_why.specs.declared.seeking.ReplyAt.{ReplyAt}
 use Rattle.hc_why.specs.Found.{finding_of, position_of}
-use Rattle.hc_why.specs.Seeking.{HasFoundAmong, IsFoundAt, IsOfPlace, reason_in, wrong_at}
+use Rattle.hc_why.specs.Seeking.{HasFoundAmong, HasHeard, IsFoundAt, IsOfPlace, reason_in, wrong_at}
 use Rattle.hc_past.specs.Standing.{answered, exchange_at, newest_exchange, stands_at}
-use Rattle.hc_transcript.specs.Items.{Item}
+use Rattle.hc_transcript.specs.Items.{ClientReply, ClientRequest, Item, OriginFailure, OriginRequest, OriginResponse}
 use Rattle.hc_transcript.specs.History.{next_position}
 
 -- ---- what stands at a place in a list, and in one behind it
@@ -153,12 +154,65 @@ stands_newest item h place is opened =
     let same : exchange_at place (item ∷ h) ≡ answered item h = ap (λ (n : ℕ). newest_exchange (drop n (item ∷ h))) e in
     both (nat_le place (length (item ∷ h))) (is_some (exchange_at place (item ∷ h))) (le_to place (length (item ∷ h)) (position_of_newest place item h is)) (ap is_some same ∙ opened)
 
--- so who has found it among the items before has found it among all
-pub found_later : (seeker : ReplyAt) (item : Item) (h : List Item) → HasFoundAmong seeker h → HasFoundAmong seeker (item ∷ h)
-found_later seeker item h before = record {
+not_below : (m n : ℕ) → nat_le m n ≡ false → m ≤ suc n → m ≡ suc n
+not_below m n above most = grind (arith, nat_tests)
+
+-- what stands there among all stood there before, if it isn't the newest
+stood_there : (item : Item) (h : List Item) (place : ℕ) (below : Bool) → nat_le place (length h) ≡ below
+    → (place ≡ next_position h → is_some (answered item h) ≡ false) → stands_at place (item ∷ h) ≡ true → stands_at place h ≡ true
+stood_there item h place true is newest there =
+    let few = le_from place (length h) is in
+    let e : length (item ∷ h) - place ≡ suc (length h - place) = omega (arith, few) in
+    let same : exchange_at place (item ∷ h) ≡ exchange_at place h = ap (λ (n : ℕ). newest_exchange (drop n (item ∷ h))) e in
+    both (nat_le place (length h)) (is_some (exchange_at place h)) is
+    (ap is_some (sym same) ∙ second_of_both (nat_le place (length (item ∷ h))) (is_some (exchange_at place (item ∷ h))) there)
+stood_there item h place false is newest there =
+    let most : place ≤ suc (length h) = le_from place (length (item ∷ h)) (first_of_both (nat_le place (length (item ∷ h))) (is_some (exchange_at place (item ∷ h))) there) in
+    let here : place ≡ suc (length h) = not_below place (length h) is most in
+    let next : place ≡ next_position h = omega (arith, here) in
+    let e : length (item ∷ h) - place ≡ 0 = omega (arith, here) in
+    let same : exchange_at place (item ∷ h) ≡ answered item h = ap (λ (n : ℕ). newest_exchange (drop n (item ∷ h))) e in
+    let some : is_some (answered item h) ≡ true =
+    ap is_some (sym same) ∙ second_of_both (nat_le place (length (item ∷ h))) (is_some (exchange_at place (item ∷ h))) there in
+    let none : is_some (answered item h) ≡ false = newest next in
+    absurd (cc)
+
+-- what is no reply answers nothing
+pub answers_nothing : (item : Item) (h : List Item) → is_reply item ≡ false → is_some (answered item h) ≡ false
+answers_nothing (ClientRequest number moment request target) h is = refl
+answers_nothing (OriginRequest number moment request target cause) h is = refl
+answers_nothing (OriginResponse number moment response) h is = refl
+answers_nothing (OriginFailure number moment) h is = refl
+answers_nothing (ClientReply number moment reply) h is = absurd cc
+
+-- so who has found it among the items before has found it among all, where the newest isn't it
+pub found_later : (seeker : ReplyAt) (item : Item) (h : List Item) → (seeker.position ≡ next_position h → is_some (answered item h) ≡ false)
+    → HasFoundAmong seeker h → HasFoundAmong seeker (item ∷ h)
+found_later seeker item h newest before = record {
   stands = λ found. stands_later item h seeker.position (before.stands found);
+  there = λ standing. before.there (stood_there item h seeker.position (nat_le seeker.position (length h)) refl newest standing);
   finds = before.finds;
 }
+
+-- or where a wrong one was found there before
+pub found_already : (seeker : ReplyAt) (item : Item) (h : List Item) → is_some seeker.reason ≡ true → HasFoundAmong seeker h → HasFoundAmong seeker (item ∷ h)
+found_already seeker item h wrong before = record {
+  stands = λ found. stands_later item h seeker.position (before.stands found);
+  there = λ standing. before.finds wrong;
+  finds = before.finds;
+}
+
+not_some : false ≡ true → ⊥
+not_some same = cc
+
+denied : (standing : Bool) (found : Option FoundReply) → (standing ≡ true → is_some found ≡ true) → found ≡ None → standing ≡ false
+denied false found is none = refl
+denied true None is none = absurd (not_some (is refl))
+denied true (Some reply) is none = absurd (cc)
+
+-- where nothing is found, none stands there
+pub not_standing : (seeker : ReplyAt) (h : List Item) → HasHeard seeker h → seeker.found ≡ None → stands_at seeker.position h ≡ false
+not_standing seeker h heard none = denied (stands_at seeker.position h) seeker.found heard.found.there none
 
 -- and who finds it where it is the newest
 pub found_newest : (seeker : ReplyAt) (reason : Option Reason) (found : Option FoundReply) (item : Item) (h : List Item) → seeker.position ≡ next_position h
@@ -166,6 +220,7 @@ pub found_newest : (seeker : ReplyAt) (reason : Option Reason) (found : Option F
     → HasFoundAmong record { alloc = seeker.alloc; position = seeker.position; is_behind = seeker.is_behind; reason = reason; found = found } (item ∷ h)
 found_newest seeker reason found item h is opened there = record {
   stands = λ found_is. stands_newest item h seeker.position is opened;
+  there = λ standing. there;
   finds = λ wrong. there;
 }
 

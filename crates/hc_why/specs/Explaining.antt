@@ -1,11 +1,14 @@
 -- What is known of a reply that is explained.
 use Rattle.std.specs.Prelude.{◌≡◌, ⊤, ℕ, Bool, true, false, ◌||◌, not, codes, List, Option, Some, None, IfSome, IsSome, is_some, option_copied, if◌then◌else◌, ◌⊎◌}
 use Rattle.std.specs.Option.{option_map}
+use Rattle.hc_framing.specs.declared.message.Message.{Message}
+use Rattle.hc_head.specs.declared.head.ResponseHead.{ResponseHead}
 use Rattle.hc_status.specs.declared.marks.Mark.{Mark}
 use Rattle.hc_status.specs.declared.marks.Mark.TheVariants as mark
 use Rattle.hc_transcript.specs.declared.format.Format.{Format}
 use Rattle.hc_transcript.specs.History.{exchange_of}
-use Rattle.hc_transcript.specs.Items.{Item}
+use Rattle.hc_transcript.specs.Items.{ClientReply, Item}
+use Rattle.hc_history.specs.declared.settings.Settings.{Settings}
 use Rattle.hc_history.specs.declared.verdicts.Finding.{Finding}
 use Rattle.hc_history.specs.declared.verdicts.Finding.TheVariants.{Right, Wrong}
 use Rattle.hc_history.specs.Claims.{Claim, claim_of}
@@ -21,6 +24,7 @@ use Rattle.hc_use.specs.Permits.{stale_use_of}
 use Rattle.hc_use.specs.Stale.{settings_with}
 use Rattle.hc_why.specs.declared.explaining.Explanation.{Explanation}
 use Rattle.hc_why.specs.declared.explaining.Way.{Way}
+use Rattle.hc_why.specs.declared.found.FoundReply.{FoundReply}
 use Rattle.hc_why.specs.declared.explaining.Way.TheVariants.{Hit, Forwarded, Collapsed, Unmarked}
 use Rattle.hc_past.specs.declared.shortfalls.Nearest.{Nearest}
 use Rattle.hc_why.specs.Due.{name_of_end, place_of_end, told_in_window, told_of}
@@ -30,10 +34,43 @@ use Rattle.hc_why.specs.Seeking.{reason_in}
 
 -- ---- the reply
 
+-- a reply that was judged: where it stands, the exchange that it answers, its audit's settings and format, its mark, and what is found of it
+pub record Judged : Type 0 where
+  pub position : ℕ
+  pub exchange : ℕ
+  pub moment : ℕ
+  pub format : Format
+  pub settings : Settings
+  pub reply : Message ResponseHead
+  pub mark : Mark
+  pub finding : Finding
+
+-- the same of one that is handed to a witness
+abbrev pub judged_of : {I : Type 0} → JudgedReply I → Judged
+judged_of judged = record {
+  position = judged.position;
+  exchange = judged.exchange;
+  moment = judged.moment;
+  format = judged.format;
+  settings = judged.settings.now;
+  reply = judged.reply;
+  mark = judged.mark;
+  finding = judged.finding;
+}
+
+-- the item that it is
+abbrev pub item_of_judged : Judged → Item
+item_of_judged judged = ClientReply judged.exchange judged.moment judged.reply
+
+-- it stands where a reply was found, and the same is found of it
+pub record IsAs (found : FoundReply) (judged : Judged) : Type 0 where
+  pub position : judged.position ≡ found.position
+  pub finding : judged.finding ≡ found.finding
+
 -- what the reply claims behind these items, by the exchange that it answers and its audit's settings
-abbrev pub claim_judged : {I : Type 0} → JudgedReply I → List Item → Option Claim
+abbrev pub claim_judged : Judged → List Item → Option Claim
 claim_judged judged h =
-    option_map (λ opened. claim_of judged.format judged.settings.now opened judged.moment judged.reply h) (exchange_of judged.exchange h)
+    option_map (λ opened. claim_of judged.format judged.settings opened judged.moment judged.reply h) (exchange_of judged.exchange h)
 
 -- the way that a reply of that mark went
 abbrev pub way_by : Format → Mark → Way
@@ -106,11 +143,11 @@ stale_told Unmarked claim (Some nearest) = None
 -- ---- what would be found with a setting
 
 -- an audit with that setting finds that of the reply
-abbrev pub IsFoundWith : {I : Type 0} → JudgedReply I → List Item → Option Setting → Option Finding → Type 0
+abbrev pub IsFoundWith : Judged → List Item → Option Setting → Option Finding → Type 0
 IsFoundWith judged h None found = found ≡ None
 IsFoundWith judged h (Some setting) None = ⊥
 IsFoundWith judged h (Some setting) (Some finding) =
-    IsFinding judged.format (settings_with setting judged.settings.now) (exchange_of judged.exchange h) judged.moment judged.reply h finding
+    IsFinding judged.format (settings_with setting judged.settings) (exchange_of judged.exchange h) judged.moment judged.reply h finding
 
 -- ---- what came in place of what is due
 
@@ -125,7 +162,7 @@ AreFieldsOf claim (Some nearest) (Some found) = AreDifferences claim nearest.sta
 -- it is of that reply: of its position, its finding, its claim and its way. The response that is named is named so, and agrees with the finding; none is named where none
 -- stands there, the finding is of none, or the reply carries what came in its window. How stale it is, what would be found with its setting, the fields in which the
 -- reply differs from it, and the ends of forwards that are listed, are so
-pub record Explains {I : Type 0} (judged : JudgedReply I) (h : List Item) (explanation : Explanation) : Type 0 where
+pub record Explains (judged : Judged) (h : List Item) (explanation : Explanation) : Type 0 where
   pub position : explanation.position ≡ judged.position
   pub finding : explanation.finding ≡ judged.finding
   pub claim : claim_judged judged h ≡ Some explanation.claim

@@ -1,14 +1,16 @@
 -- Which ends of forwards are listed with a reply.
-use Rattle.std.specs.Prelude.{◌≡◌, ℕ, Bool, true, false, ◌&&◌, nat_lt, unwrap_or, is_some, List, Option, Some, None, All, if◌then◌else◌}
+use Rattle.std.specs.Prelude.{◌≡◌, ℕ, Bool, true, false, ◌&&◌, nat_lt, unwrap_or, is_some, List, Option, Some, None, All, IfSome, if◌then◌else◌}
 use Rattle.hc_head.specs.Statuses.{not_modified}
 use Rattle.hc_head.specs.Targets.{same_target}
 use Rattle.hc_update.specs.States.{invalidates}
 use Rattle.hc_history.specs.Claims.{Claim}
 use Rattle.hc_gaps.specs.declared.against.Against.{Against}
 use Rattle.hc_gaps.specs.declared.against.Against.TheVariants.{Earlier}
+use Rattle.hc_gaps.specs.declared.against.Against.TheVariants as against
 use Rattle.hc_gaps.specs.Against.{against_of}
 use Rattle.hc_why.specs.declared.changes.Ends.{Ends}
 use Rattle.hc_why.specs.declared.changes.NotAbout.{NotAbout}
+use Rattle.hc_why.specs.declared.changes.NotAboutIt.{NotAboutIt}
 use Rattle.hc_past.specs.declared.past.End.{End}
 use Rattle.hc_past.specs.declared.past.Heads.{Heads}
 use Rattle.hc_past.specs.declared.shortfalls.Nearest.{Nearest}
@@ -56,9 +58,32 @@ abbrev pub IsNotAboutOf : Claim → Option Nearest → NotAbout → Type 0
 IsNotAboutOf claim None one = ⊥
 IsNotAboutOf claim (Some nearest) one = IsNotAbout claim nearest one
 
+-- Vary is what stands against it
+abbrev pub is_selecting : Against → Bool
+is_selecting against.Method = false
+is_selecting against.ForwardNoStore = false
+is_selecting against.Private = false
+is_selecting against.NoStore = false
+is_selecting against.Unselected = true
+is_selecting against.Earlier = false
+is_selecting (against.Validators telling) = false
+
+-- its Vary alone keeps it from being about the response: its validator is that of the response
+abbrev pub is_unselected : NotAbout → Bool
+is_unselected one = one.agrees && is_selecting one.against
+
+-- the 304s that aren't about it are such ones; the latest of those of which no RFC says so, and of those that Vary alone keeps from being about it, are of these, and there is
+-- none only where none of those that are listed is one
+pub record AreNotAbout (claim : Claim) (nearest : Option Nearest) (found : NotAboutIt) : Type 0 where
+  pub listed : All (IsNotAboutOf claim nearest) found.listed.named.items
+  pub stricter : IfSome found.stricter (λ one. IsNotAboutOf claim nearest one × (one.is_stricter ≡ true))
+  pub unselected : IfSome found.unselected (λ one. IsNotAboutOf claim nearest one × (is_unselected one ≡ true))
+  pub none_stricter : found.stricter ≡ None → All (λ one. one.is_stricter ≡ false) found.listed.named.items
+  pub none_unselected : found.unselected ≡ None → All (λ one. is_unselected one ≡ false) found.listed.named.items
+
 -- what is listed is so
 pub record Lists (claim : Claim) (nearest : Option Nearest) (ends : Ends) : Type 0 where
   pub unstored : All (λ end. is_unstored claim end.now ≡ true) ends.unstored.named.items
   pub window : All (λ end. is_behind claim end.now ≡ true) ends.window.named.items
   pub invalidators : All (λ end. is_invalidator claim nearest end.now ≡ true) ends.invalidators.named.items
-  pub not_about : All (IsNotAboutOf claim nearest) ends.not_about.named.items
+  pub not_about : AreNotAbout claim nearest ends.not_about

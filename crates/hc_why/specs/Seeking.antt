@@ -45,9 +45,10 @@ pub record IsFoundAt (seeker : ReplyAt) (wrongs : List WrongReply) : Type 0 wher
   pub reason : seeker.reason ≡ wrong_at seeker.position wrongs
   pub found : IfSome seeker.found (λ reply. IsOfPlace seeker.position wrongs (position_of reply) (finding_of reply))
 
--- what it has found stands among these items, and what is wrong at the position it has found
+-- it has found something where a reply stands at the position among these items, and only there; and where it has seen that one is wrong
 pub record HasFoundAmong (seeker : ReplyAt) (h : List Item) : Type 0 where
   pub stands : is_some seeker.found ≡ true → stands_at seeker.position h ≡ true
+  pub there : stands_at seeker.position h ≡ true → is_some seeker.found ≡ true
   pub finds : is_some seeker.reason ≡ true → is_some seeker.found ≡ true
 
 -- whether it says that the record at the position has passed

@@ -4,9 +4,9 @@
 ghost use Rattle.std.specs.Prelude.{◌≡◌, ◌&&◌, IfOk, IfSome, OnOk, Option, Some, map, option_copied, true, if◌then◌else◌};
 ghost use Rattle.hc_head.specs.Targets.{same_target};
 ghost use Rattle.hc_history.specs.Claims.{Claim};
-ghost use Rattle.hc_why.specs.Demanding.{are_safe, has_unselected, is_by_safe, is_unselected};
+ghost use Rattle.hc_why.specs.Demanding.{are_safe, has_unselected, is_by_safe};
 ghost use Rattle.hc_why.specs.Due.{due_at, due_by, is_after_error, name_of_end, none_told, place_among, place_of_end, told_after, told_by, told_by_all, told_of, validated_in};
-ghost use Rattle.hc_why.specs.Listing.{IsNotAbout, Lists, is_of, is_since_it, is_unstored};
+ghost use Rattle.hc_why.specs.Listing.{AreNotAbout, IsNotAbout, IsNotAboutOf, Lists, is_of, is_since_it, is_unselected, is_unstored};
 ghost use Rattle.hc_past.specs.Remembered.{end_seen};
 ghost use Rattle.hc_past.specs.declared.shortfalls.Nearest.{Nearest};
 
@@ -56,6 +56,27 @@ pub struct NotAbout<'a> {
     agrees: bool,
 }
 
+/// The 304s of the response's target that aren't about it.
+pub struct NotAboutIt<'a> {
+    /// The newest of them.
+    pub listed: Newest<NotAbout<'a>>,
+    // The latest of which no RFC says so.
+    stricter: Option<NotAbout<'a>>,
+    // The latest that Vary alone keeps from being about it.
+    unselected: Option<NotAbout<'a>>,
+}
+
+impl Drop for NotAboutIt<'_> {
+    fn drop(self) {
+        let NotAboutIt {
+            listed,
+            stricter: _,
+            unselected: _,
+        } = self;
+        drop(listed);
+    }
+}
+
 /// What was due in place of a response that may not be given.
 #[derive(Clone, Copy)]
 pub enum Due<'a> {
@@ -95,7 +116,7 @@ pub struct Ends<'a> {
     pub invalidators: Newest<&'a End>,
     /// The 304s that aren't about it: of the window, since one was about it; of an invalidated one those since; and whenever
     /// they came those that no RFC says so of.
-    pub not_about: Newest<NotAbout<'a>>,
+    pub not_about: NotAboutIt<'a>,
     // The latest 200 to HEAD since which is about it.
     updated: Option<&'a End>,
 }
@@ -183,6 +204,36 @@ fn may_update(alloc: Global, state: &Stored, heads: &Heads) -> Result<bool, Allo
     )
 }
 
+// The later one of those 304s that are looked for: that one, if it is one, or else the one before.
+fn later<'a>(is_one: bool, one: NotAbout<'a>, before: Option<NotAbout<'a>>) -> Option<NotAbout<'a>>
+    ensures { result ≡ (if is_one then Some one.entry else before.entry) }
+{
+    if is_one { Some(one) } else { before }
+}
+
+impl<'a> NotAboutIt<'a> {
+    // None.
+    fn none(alloc: Global) -> Self
+        ensures { (claim : Claim) (nearest : Option Nearest) → AreNotAbout claim nearest result }
+    {
+        NotAboutIt {
+            listed: Newest::new(alloc),
+            stricter: None,
+            unselected: None,
+        }
+    }
+
+    // Adds one that is newer than all others.
+    fn push(&mut self, one: NotAbout<'a>) -> Result<(), AllocError>
+        ensures { (claim : Claim) (nearest : Option Nearest) → IsNotAboutOf claim nearest one.entry → AreNotAbout claim nearest self.old
+            → OnOk result (AreNotAbout claim nearest self.new) }
+    {
+        self.stricter = later(one.is_stricter, one, self.stricter);
+        self.unselected = later(one.is_unselected(), one, self.unselected);
+        self.listed.push(one)
+    }
+}
+
 // Which is the later one of those that are looked for: that end of a forward, if it is one, or else the one before.
 fn latest<'a>(is_one: bool, end: &'a End, before: Option<&'a End>) -> Option<&'a End>
     ensures { name_of_end (option_copied result) ≡ (if is_one then Some end.now.named else name_of_end (option_copied before.entry)) }
@@ -251,7 +302,7 @@ impl<'a> Ends<'a> {
             failure: None,
             validator: None,
             invalidators: Newest::new(alloc),
-            not_about: Newest::new(alloc),
+            not_about: NotAboutIt::none(alloc),
             updated: None,
         }
     }
@@ -425,7 +476,7 @@ impl<'a> Ends<'a> {
             return Ok(());
         };
         if nearest.breaks() == Some(Rule::Valid) && invalidates(&end.method, status) {
-            self.not_about = Newest::new(alloc);
+            self.not_about = NotAboutIt::none(alloc);
             return self.invalidators.push(end);
         }
         match &end.heads {
@@ -451,7 +502,7 @@ impl<'a> Ends<'a> {
     pub(crate) fn has_unselected(&self) -> bool
         ensures { result ≡ has_unselected self.now }
     {
-        self.not_about.named.iter().any(|one| one.is_unselected())
+        self.not_about.unselected.is_some()
     }
 }
 
@@ -538,13 +589,7 @@ impl Explanation<'_> {
     /// What is asked where the response that is named would keep the rule that it breaks, had an answer freshened it of which RFCs
     /// permit that: the latest 304 of which none says that it isn't about it, or a 200 to HEAD.
     pub(crate) fn permitted_change(&self) -> Result<Option<Demand>, AllocError> {
-        let mut stricter = None;
-        for not_about in self.ends.not_about.named.iter() {
-            if not_about.is_stricter {
-                stricter = Some(*not_about);
-            }
-        }
-        match stricter {
+        match self.ends.not_about.stricter {
             Some(latest) if self.helps(latest.end)? => {
                 return Ok(Some(latest.against.stricter_demand()));
             }
@@ -590,13 +635,13 @@ impl Explanation<'_> {
     /// Tells each 304 that isn't about that response, which came since it was invalidated or after the request.
     pub fn tell_not_about<T: Teller>(&self, nearest: &Nearest<'_>, teller: &mut T) {
         teller.begin_list("not_modified");
-        for not_about in self.ends.not_about.named.iter() {
+        for not_about in self.ends.not_about.listed.named.iter() {
             teller.begin_item();
             self.tell_one_not_about(nearest, not_about, teller);
             teller.end();
         }
         teller.end();
-        teller.more("more_not_modified", self.ends.not_about.older);
+        teller.more("more_not_modified", self.ends.not_about.listed.older);
     }
 
     // Tells that a 304 doesn't validate the response, and why (RFC 9111 section 4.3.4).

@@ -3,7 +3,8 @@
 ghost use Rattle.std.specs.Prelude.{◌≡◌, option_copied};
 ghost use Rattle.std.specs.Option.{option_map};
 ghost use Rattle.hc_gaps.specs.Demanding.{first_in, renewed_in};
-ghost use Rattle.hc_why.specs.Demanding.{IsAskedOf, demanded_sections, is_for_it};
+ghost use Rattle.hc_gaps.specs.Forms.{leaves_out};
+ghost use Rattle.hc_why.specs.Demanding.{IsAskedByResponse, IsAskedOf, IsDemanded, demanded_sections, forbids_given, is_breach, is_for_it, is_not_forwarded, keep_all, keeps_all, may_be, unstored_sections, unstored_told};
 
 use crate::changes::{INVALIDATED, INVALIDATED_BY_SAFE};
 use crate::explaining::Explanation;
@@ -11,7 +12,7 @@ use hc_fields::Fields;
 use hc_gaps::{FieldsOrigin, leaves_out};
 use hc_head::{StatusCode, is_head};
 use hc_history::{Finding, Reason};
-use hc_past::{Heads, Nearest, Shortfall, Unstored, Why};
+use hc_past::{End, Heads, Nearest, Reach, Shortfall, Unstored, Why};
 use hc_rules::selects;
 use hc_shown::RecordName;
 use hc_transcript::ToldCause;
@@ -61,25 +62,34 @@ impl Explanation<'_> {
         }
     }
 
-    /// What is asked of a reply that is wrong for that reason: by the way in which the stored response that is named falls
+    /// What is asked of a reply that is wrong for that reason, by the first that is there: an answer of its own that is marked as a
+    /// hit; what RFCs permit of it; what forbids to store what it gives; and the way in which the stored response that is named falls
     /// short, where that is what it doesn't keep, or where the reply went forward and is to be that response, or gives it.
-    pub fn demand(&self, reason: Reason) -> Demand {
+    pub fn demand(&self, reason: Reason) -> Demand
+        ensures { IsDemanded self.now reason result.sections.now }
+    {
         if self.own_answer().is_some() {
             return NO_HIT;
         }
         if let Some(permitted) = self.permitted {
             return permitted;
         }
-        let is_forwarded = match self.why {
-            Some(Why::NoResponse(Unstored::OtherMethod)) => return STORED_ANSWER,
-            Some(Why::NoResponse(_)) => return self.demand_of_storing(),
-            Some(Why::NotForwarded(_)) => true,
-            _ => false,
-        };
+        match self.why {
+            Some(Why::NoResponse(Unstored::OtherMethod)) => STORED_ANSWER,
+            Some(Why::NoResponse(_)) => self.demand_of_storing(),
+            Some(Why::NotForwarded(_)) => self.demand_by_response(reason, true),
+            _ => self.demand_by_response(reason, false),
+        }
+    }
+
+    // What is asked by the response that is named, if it bears on that, of a reply that went forward or not.
+    fn demand_by_response(&self, reason: Reason, is_forwarded: bool) -> Demand
+        ensures { IsAskedByResponse self.now reason is_forwarded self.now.nearest result.sections.now }
+    {
         if let Some(nearest) = &self.nearest {
             if let Some(shortfall) = &nearest.shortfall {
-                let breaks_it = shortfall.rule().reason() == reason;
-                if breaks_it || (is_forwarded && self.stands_for(nearest)) {
+                let stands_for = is_forwarded && self.stands_for(nearest);
+                if is_breach(shortfall, reason) || stands_for {
                     return self.demand_of(nearest, shortfall);
                 }
             }
@@ -89,39 +99,57 @@ impl Explanation<'_> {
 
     // Whether what went forward may be of the cache's own making, or what was collapsed is what was stored before its request, and
     // may be given.
-    fn may_be(&self, reason: Reason) -> bool {
-        if reason == Reason::NotForwarded {
-            return 500 <= self.claim.reply.head.status.as_u16();
+    fn may_be(&self, reason: Reason) -> bool
+        ensures { result ≡ may_be self.now reason }
+    {
+        if is_not_forwarded(reason) {
+            500 <= self.claim.reply.head.status.as_u16()
+        } else {
+            keep_all(self.before.named.as_slice())
         }
-        for reach in self.before.named.iter() {
-            if reach.breaks.is_none() {
-                return true;
-            }
+    }
+
+    // The response by which it is told why nothing is stored: the latest that the reply gives, or else the latest of those that
+    // are named.
+    fn unstored_told(&self) -> Option<&End>
+        ensures { option_copied result ≡ unstored_told self.now.ends }
+    {
+        if let Some(given) = self.ends.given {
+            return Some(given);
         }
-        false
+        let last = self.ends.unstored.named.last()?;
+        Some(*last)
+    }
+
+    // What of that forbids to store a response as the reply gives it: of a 304 nothing by its status and method.
+    fn forbids_given(&self, forbids: Forbids, status: Option<StatusCode>) -> Forbids
+        ensures { result ≡ forbids_given self.now.claim status forbids }
+    {
+        let is_304 = status == Some(StatusCode::NOT_MODIFIED);
+        let is_part = self.claim.reply.head.status == StatusCode::PARTIAL_CONTENT;
+        let asks_head = is_head(&self.claim.request.method);
+        Forbids {
+            status: forbids.status && !is_304,
+            method: forbids.method && !is_304,
+            uncacheable: forbids.uncacheable && !is_304,
+            by_head: forbids.by_head && !is_304 && !asks_head,
+            partial: forbids.partial && !is_part,
+            ..forbids
+        }
     }
 
     // What is asked of a hit for which nothing is stored: by what forbids to store the response that it gives, or else the
-    // latest; of a 304 beside its status and method.
-    fn demand_of_storing(&self) -> Demand {
-        let Some(end) = self.ends.given.or(self.ends.unstored.last().copied()) else {
+    // latest.
+    fn demand_of_storing(&self) -> Demand
+        ensures { result.sections.now ≡ unstored_sections self.now }
+    {
+        let Some(end) = self.unstored_told() else {
             return UNRECORDED;
         };
-        let (Some(mut forbids), Some(heads)) = (end.forbids, &end.heads) else {
+        let (Some(forbids), Some(heads)) = (end.forbids, &end.heads) else {
             return UNRECORDED;
         };
-        if end.status == Some(StatusCode::NOT_MODIFIED) {
-            forbids.status = false;
-            forbids.method = false;
-            forbids.by_head = false;
-            forbids.uncacheable = false;
-        }
-        if self.claim.reply.head.status == StatusCode::PARTIAL_CONTENT {
-            forbids.partial = false;
-        }
-        if is_head(&self.claim.request.method) {
-            forbids.by_head = false;
-        }
+        let forbids = self.forbids_given(forbids, end.status);
         if forbids.is_nothing() {
             return NO_RESPONSE;
         }
@@ -137,7 +165,9 @@ impl Explanation<'_> {
     }
 
     // Whether those of a response say the directive of fields alone, of which the reply has none.
-    fn leaves_out(&self, directive: &[u8], response: &Fields) -> bool {
+    fn leaves_out(&self, directive: &[u8], response: &Fields) -> bool
+        ensures { result ≡ leaves_out directive.now response.now self.now.claim.reply.head.fields }
+    {
         let reply = &self.claim.reply.head.fields;
         leaves_out(directive, response, reply)
     }
@@ -171,6 +201,35 @@ impl Explanation<'_> {
             None => false,
         }
     }
+}
+
+// Whether one of those responses keeps all rules.
+fn keep_all(reaches: &[Reach]) -> bool
+    ensures { result ≡ keep_all reaches.now }
+{
+    reaches.iter().any(|reach| keeps_all(reach))
+}
+
+fn keeps_all(reach: &Reach) -> bool
+    ensures { result ≡ keeps_all reach.now }
+{
+    match reach.breaks {
+        Some(_) => false,
+        None => true,
+    }
+}
+
+fn is_not_forwarded(reason: Reason) -> bool
+    ensures { result ≡ is_not_forwarded reason }
+{
+    matches!(reason, Reason::NotForwarded)
+}
+
+// Whether that is the breach of a reply that is wrong for that reason.
+fn is_breach(shortfall: &Shortfall, reason: Reason) -> bool
+    ensures { result ≡ is_breach shortfall.now reason }
+{
+    shortfall.rule().reason().number() == reason.number()
 }
 
 // What bears on what is asked, beside the way in which a response falls short.

@@ -8,8 +8,9 @@ ghost use Rattle.hc_history.specs.Right.{IsFinding};
 ghost use Rattle.hc_history.specs.Seen.{IsSeenAs};
 ghost use Rattle.hc_audit.specs.Hearing.{IsReplyBehind};
 ghost use Rattle.hc_use.specs.Stale.{settings_with};
-ghost use Rattle.hc_why.specs.Due.{none_told, place_among, place_of_end, told_by_all, told_of};
-ghost use Rattle.hc_why.specs.Explaining.{AreFieldsOf, Explains, IsFoundWith, Leaves, Names, TellsValidator, TellsWindow, carries_answer, named_since, names_one, stale_told, way_by, way_name};
+ghost use Rattle.hc_why.specs.Demanding.{has_own_answer, is_given_of, is_own, source_among, stands_for};
+ghost use Rattle.hc_why.specs.Due.{name_of_end, none_told, place_among, place_of_end, told_by_all, told_of};
+ghost use Rattle.hc_why.specs.Explaining.{AreFieldsOf, Explains, IsFoundWith, Leaves, Names, TellsValidator, TellsWindow, carries_answer, judged_of, named_since, names_one, stale_told, way_by, way_name};
 ghost use Rattle.hc_why.specs.Listing.{Lists};
 ghost use Rattle.hc_past.specs.Naming.{setting_by, shortfall_in};
 ghost use Rattle.hc_past.specs.Remembered.{IsPastOf, end_seen};
@@ -176,7 +177,7 @@ fn found_with_setting<I: Index>(
     nearest: Option<&Nearest<'_>>,
 ) -> Result<Option<Finding>, AllocError>
     ensures { (h : List Item) → IsSeenAs judged.now.format (I.seen judged.now.index.now) h
-        → IfOk result (IsFoundWith judged.now h (setting_by (shortfall_in (option_copied nearest.entry)))) }
+        → IfOk result (IsFoundWith (judged_of judged.now) h (setting_by (shortfall_in (option_copied nearest.entry)))) }
 {
     match setting_of(nearest) {
         Some(setting) => Ok(Some(found_with(alloc, judged, setting)?)),
@@ -232,8 +233,9 @@ impl<'a> Explanation<'a> {
         judged: &JudgedReply<'a, I>,
         past: &'a Past,
     ) -> Result<Option<Self>, AllocError>
-        ensures is { (h : List Item) → IsReplyBehind I.seen h judged.now → IfOk result (λ found. IfSome found (Explains judged.now h)) }
+        ensures is { (h : List Item) → IsReplyBehind I.seen h judged.now → IfOk result (λ found. IfSome found (Explains (judged_of judged.now) h)) }
         ensures there { (h : List Item) → IsReplyBehind I.seen h judged.now → IfOk result (λ found. is_some found ≡ true) }
+        ensures past { IfOk result (λ found. IfSome found (λ explanation. explanation.past.now ≡ past.now)) }
         // What it tells of the window is so, where all is remembered that the items before the reply have for its path.
         ensures told { (h : List Item) (target : Target) → IsReplyBehind I.seen h judged.now → IsPastOf target h past.now
             → IfOk result (λ found. IfSome found (λ explanation. explanation.claim.target.path ≡ target.path → TellsWindow h explanation)) }
@@ -371,8 +373,10 @@ impl<'a> Explanation<'a> {
     }
 
     /// The record of the response at that position, if it is named.
-    pub fn source(&self, position: u64) -> Option<&'a End> {
-        for end in self.ends.sources.iter() {
+    pub fn source(&self, position: u64) -> Option<&'a End>
+        ensures { option_copied result ≡ source_among position self.now.ends.sources.items }
+    {
+        'sources: for end in self.ends.sources.iter() {
             if end.named.position == position {
                 return Some(*end);
             }
@@ -400,7 +404,10 @@ impl<'a> Explanation<'a> {
     }
 
     /// The record of that response, if the reply has its status and its body.
-    pub fn given(&self, nearest: &Nearest<'_>) -> Option<&'a End> {
+    pub fn given(&self, nearest: &Nearest<'_>) -> Option<&'a End>
+        ensures { is_some (name_of_end (option_copied result))
+            ≡ is_given_of self.now.claim (source_among nearest.now.position self.now.ends.sources.items) }
+    {
         let source = self.source(nearest.position)?;
         if source.is_given(&self.claim) {
             Some(source)
@@ -410,23 +417,36 @@ impl<'a> Explanation<'a> {
     }
 
     /// Whether a reply that went forward is to be that stored response, or gives it.
-    pub fn stands_for(&self, nearest: &Nearest<'_>) -> bool {
+    pub fn stands_for(&self, nearest: &Nearest<'_>) -> bool
+        ensures { result ≡ stands_for self.now nearest.now }
+    {
         self.was_validated(nearest) || self.given(nearest).is_some()
     }
 
     /// The answer to a forward of its own that a wrong hit carries as a whole, where it is known whose that was, and nothing came
     /// before its request that it might have come from.
-    pub fn own_answer(&self) -> Option<&'a End> {
-        if self.way != Way::Hit || self.why.is_none() || self.ends.is_given_before {
-            return None;
-        }
+    pub fn own_answer(&self) -> Option<&'a End>
+        ensures { option_copied result ≡ (if has_own_answer self.now then option_copied self.now.ends.carried else None) }
+    {
         let carried = self.ends.carried?;
-        let is_told = carried.told_cause(&self.claim) == ToldCause::Exchange(self.claim.exchange);
-        let is_own = is_told || self.past.is_alone(self.claim.since);
-        if is_own && carried.is_given(&self.claim) {
+        let is_wrong_hit = matches!(self.way, Way::Hit)
+            && self.why.is_some()
+            && !self.ends.is_given_before;
+        if is_wrong_hit && self.is_own(carried) && carried.is_given(&self.claim) {
             Some(carried)
         } else {
             None
         }
+    }
+
+    // Whether its forward is known to have been made for the request, or no other exchange of the target has been open since.
+    fn is_own(&self, end: &End) -> bool
+        ensures { result ≡ is_own self.now end.now }
+    {
+        let is_told = match end.told_cause(&self.claim) {
+            ToldCause::Exchange(number) => number == self.claim.exchange,
+            ToldCause::NoExchange | ToldCause::Untold => false,
+        };
+        is_told || self.past.is_alone(self.claim.since)
     }
 }

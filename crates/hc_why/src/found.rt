@@ -1,10 +1,11 @@
 //! A reply that the first reading found.
 
 ghost use Rattle.std.specs.Prelude.{◌≡◌, List, true, is_some, IfOk, IfSome, IsSome};
+ghost use Rattle.hc_head.specs.Targets.{same_target};
 ghost use Rattle.hc_transcript.specs.History.{exchange_of};
 ghost use Rattle.hc_transcript.specs.Items.{Item};
 ghost use Rattle.hc_history.specs.Seen.{IsSeenAs};
-ghost use Rattle.hc_why.specs.Explaining.{way_by};
+ghost use Rattle.hc_why.specs.Explaining.{IsAs, claim_judged, judged_of, way_by};
 ghost use Rattle.hc_why.specs.Found.{finding_of, position_of, way_found};
 
 use crate::explaining::{Way, way_of};
@@ -62,7 +63,11 @@ impl FoundReply {
     }
 
     /// Whether it is that reply to what was asked for, with the same finding.
-    pub fn is_as<I: Index>(&self, judged: &JudgedReply<'_, I>) -> bool {
+    pub fn is_as<I: Index>(&self, judged: &JudgedReply<'_, I>) -> bool
+        ensures same { result ≡ true → IsAs self.now (judged_of judged.now) }
+        ensures target { (h : List Item) → IsSeenAs judged.now.format (I.seen judged.now.index.now) h → result ≡ true
+            → IfSome (claim_judged (judged_of judged.now) h) (λ claim. same_target self.now.target claim.target ≡ true) }
+    {
         match judged.claim() {
             Some(claim) => {
                 self.position == judged.position

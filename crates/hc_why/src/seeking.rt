@@ -1,6 +1,6 @@
 //! The first reading, which looks for the reply.
 
-ghost use Rattle.std.specs.Prelude.{◌≡◌, ◌++◌, ℕ, suc, List, [], ◌∷◌, None, true, is_some, nat_le, slice_get, IfSome, IsSome, OnOk};
+ghost use Rattle.std.specs.Prelude.{◌≡◌, ◌++◌, ℕ, suc, List, [], ◌∷◌, None, true, false, is_some, nat_le, slice_get, IfSome, IsSome, OnOk};
 ghost use Rattle.hc_transcript.specs.Items.{Item};
 ghost use Rattle.hc_history.specs.declared.wrong.WrongReply.{WrongReply};
 ghost use Rattle.hc_audit.specs.Hearing.{IsReplyBehind, item_judged};
@@ -117,13 +117,16 @@ impl ReplyAt {
     }
 
     /// What was found of the reply, which is moved. None where another record, or none, stands there.
+    #[tactic(auto, using(crate::proofs::SeekingLemmas::not_standing))]
     pub fn into_found(mut self) -> Option<FoundReply>
         // It is wrong where one of the wrong replies stands there, by its reason.
         ensures place { (wrongs : List WrongReply) → IsFoundAt self wrongs
             → IfSome result (λ reply. IsOfPlace (place_of self) wrongs (position_of reply) (finding_of reply)) }
         // It stands there.
         ensures stands { (h : List Item) → HasHeard self h → IsSome result → stands_at (place_of self) h ≡ true }
-        // Where there is none, no wrong reply stands there.
+        // Where there is none, no reply stands there,
+        ensures no_reply { (h : List Item) → HasHeard self h → result ≡ None → stands_at (place_of self) h ≡ false }
+        // and no wrong one is told of.
         ensures none { (h : List Item) (wrongs : List WrongReply) → HasHeard self h → IsFoundAt self wrongs → result ≡ None
             → wrong_at (place_of self) wrongs ≡ None }
     {

@@ -1,11 +1,26 @@
 //! In what the response that is named falls short, as it is told.
 
+ghost use Rattle.std.specs.Prelude.{◌≡◌, option_copied};
+ghost use Rattle.std.specs.Option.{option_map};
+ghost use Rattle.hc_gaps.specs.Demanding.{first_in, renewed_in};
+ghost use Rattle.hc_why.specs.Demanding.{fields_of_end, source_among};
+
 use crate::explaining::Explanation;
+use hc_fields::Fields;
 use hc_gaps::{Differences, FieldsOrigin, Selection};
 use hc_history::Finding;
-use hc_past::{NO_GET, Nearest, Shortfall, fields_of};
+use hc_past::{End, NO_GET, Nearest, Shortfall, fields_of};
 use hc_shown::{RecordName, Teller};
 use hc_use::{AgeOrigin, Aged, Usage};
+
+// A 304, and its fields, as far as they are known.
+fn renewed_by<'a>(validator: Option<&'a End>) -> Option<(RecordName, &'a Fields)>
+    ensures { option_map (λ one. one.1.now) result ≡ fields_of_end (option_copied validator.entry) }
+{
+    let end = validator?;
+    let fields = fields_of(Some(end))?;
+    Some((end.named, fields))
+}
 
 impl<'a> Explanation<'a> {
     // The record of the forward that the response answers which is named, as far as it is known.
@@ -41,13 +56,12 @@ impl<'a> Explanation<'a> {
     }
 
     // What the fields of the response come from.
-    pub(crate) fn fields_origin(&self, nearest: &Nearest<'_>) -> FieldsOrigin<'a> {
-        let validator = self.ends.validator;
+    pub(crate) fn fields_origin(&self, nearest: &Nearest<'_>) -> FieldsOrigin<'a>
+        ensures renewed { renewed_in result ≡ fields_of_end (option_copied self.now.ends.validator) }
+        ensures first { first_in result ≡ fields_of_end (source_among nearest.now.position self.now.ends.sources.items) }
+    {
         FieldsOrigin {
-            validator: match (validator, fields_of(validator)) {
-                (Some(validator), Some(renewed)) => Some((validator.named, renewed)),
-                _ => None,
-            },
+            validator: renewed_by(self.ends.validator),
             position: nearest.position,
             first: fields_of(self.source(nearest.position)),
         }
@@ -145,7 +159,7 @@ impl<'a> Explanation<'a> {
     ) {
         self.tell_gap(nearest, shortfall, teller);
         self.tell_not_about(nearest, teller);
-        let is_none = self.ends.not_about.is_empty();
+        let is_none = self.ends.not_about.listed.is_empty();
         if is_none && matches!(shortfall, Shortfall::Valid) {
             teller.words("; no 304 of this target since");
         }

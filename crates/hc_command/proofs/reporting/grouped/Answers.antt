@@ -18,6 +18,6 @@ returns g c =
       verdict = c.verdict-verdict.result;
       is = verdict_of_all (TellsOf report) (λ h. AreShownIn h report.wrongs.listed.items) settings _ _ outcome c.verdict-verdict.result surveyed
           (λ octets h wrongs told all. c.verdict-verdict.ensures.verdict octets settings h wrongs all (c.first_wrong.ensures wrongs told));
-      says = says_own c.verdict-verdict.result _ _ _ c.in_ok-said_first.ensures;
+      says = says_own c.verdict-verdict.result _ _ _ c.in_ok-said_first.ensures.first;
       ends = (refl, refl);
     }

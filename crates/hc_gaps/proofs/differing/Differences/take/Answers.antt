@@ -8,11 +8,12 @@ returns-then-not-branch c = λ names are.
 
 pub returns-then-len-ge-MOST_LISTED : goal.returns-then-len-ge-MOST_LISTED
 returns-then-len-ge-MOST_LISTED c = λ names are.
-    counted c.args.claim.now c.args.state.now names c.args.name.now c.args.self.now _ (sym c.in_ok-differs.ensures ∙ c.if-not-branch.false)
-    (omega (arith, c.if-len-ge-MOST_LISTED.true, c.len.ensures, c.args.self.now.listed.ok.0)) refl c.saturating_add-self.ensures are
+    counted c.args.claim.now c.args.state.now names c.args.name.now c.args.self.now _ _ _ _ (sym c.in_ok-differs.ensures ∙ c.if-not-branch.false)
+    (omega (arith, c.if-len-ge-MOST_LISTED.true, c.len.ensures, c.args.self.now.listed.ok.0)) refl c.saturating_add-self.ensures
+    c.change_of-change.ensures c.in_ok-freedom.ensures c.is_nothing.ensures c.gravest-self.ensures are
 
 pub returns : goal.returns
 returns c = λ names are.
     taken c.args.claim.now c.args.state.now names c.args.name.now c.args.self.now _ _ (sym c.in_ok-differs.ensures ∙ c.if-not-branch.false)
     (omega (arith, c.if-len-ge-MOST_LISTED.false, c.len.ensures, c.args.self.now.listed.ok.0))
-    c.in_ok-push.ensures.items refl c.in_ok-from_slice.ensures c.change_of-change.ensures are
+    c.in_ok-push.ensures.items refl refl c.in_ok-from_slice.ensures c.change_of-change.ensures c.in_ok-freedom.ensures are

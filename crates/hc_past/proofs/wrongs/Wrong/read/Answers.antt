@@ -1,6 +1,6 @@
-use Rattle.std.proofs.Common.{ℕ, IfSome, subst}
-use Rattle.hc_past.specs.Naming.{IsNamed, named_after}
-use Rattle.hc_past.proofs.NamingLemmas.{breaks_wrong, named_is}
+use Rattle.std.proofs.Common.{◌≡◌, ℕ, IfSome, None, subst}
+use Rattle.hc_past.specs.Naming.{IsNamed, first_after, named_after}
+use Rattle.hc_past.proofs.NamingLemmas.{breaks_wrong, named_is, none_first}
 use Rattle.hc_past.proofs.wrongs.Wrong.read.Goals as goal
 
 pub returns-clause-breaks : goal.returns-clause-breaks
@@ -8,5 +8,14 @@ returns-clause-breaks g c = λ format h seen are failed.
     let nearest = c.in_ok-read-2.field-0 in
     let named : IfSome nearest (IsNamed c.args.claim.now h (named_after c.args.reason c.args.claim.now)) =
     subst (λ (n : ℕ). IfSome nearest (IsNamed c.args.claim.now h n)) c.named_after.ensures
-    (named_is c.args.claim.now h c.args.candidates.now _ _ nearest are c.named-named.ensures.some (c.in_ok-read-2.ensures.told format h seen)) in
+    (named_is c.args.claim.now h c.args.candidates.now _ _ nearest are c.named-named.ensures.some (c.named-named.ensures.preferred format h seen are)
+    (c.in_ok-read-2.ensures.told format h seen)) in
     breaks_wrong c.args.claim.now h c.args.reason nearest named failed
+
+pub returns-clause-first : goal.returns-clause-first
+returns-clause-first g c = λ format h seen each none.
+    let candidates = c.args.candidates.now in
+    let named = c.named-named in
+    subst (λ (n : ℕ). first_after n candidates ≡ None) c.named_after.ensures
+    (none_first c.args.claim.now h candidates c.named_after.result named.result c.in_ok-read-2.field-0 each named.ensures.some named.ensures.none
+    (c.in_ok-read-2.ensures.there format h seen) none)

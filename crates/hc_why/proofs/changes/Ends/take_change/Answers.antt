@@ -5,8 +5,8 @@ use Rattle.hc_past.specs.declared.past.End.{End}
 use Rattle.hc_past.specs.declared.shortfalls.Nearest.{Nearest}
 use Rattle.hc_why.specs.declared.changes.NotAbout.{NotAbout}
 use Rattle.hc_why.specs.declared.explaining.Explanation.{Explanation}
-use Rattle.hc_why.specs.Listing.{IsNotAbout, IsNotAboutOf, Lists, is_invalidator}
-use Rattle.hc_why.proofs.ListingLemmas.{on_ok, pushed}
+use Rattle.hc_why.specs.Listing.{AreNotAbout, IsNotAbout, Lists, is_invalidator}
+use Rattle.hc_why.proofs.ListingLemmas.{on_ok}
 use Rattle.hc_why.proofs.changes.Ends.take_change.Goals as goal
 
 pub returns-in-Some-2-clause-lists : goal.returns-in-Some-2-clause-lists
@@ -18,10 +18,9 @@ returns-in-Some-2-clause-lists c = λ of before.
     let one : IsNotAbout claim nearest c.in-Some-2.not_about =
     subst (λ (o : Option NotAbout). IfSome o (IsNotAbout claim nearest)) c.in-Some-2.is (c.in_ok-not_about.ensures claim of) in
     let lists = c.in_ok-take_since.ensures.lists claim of (ap (λ (n : ℕ). nat_lt n c.args.end.now.named.position) c.unwrap_or.ensures) known in
-    on_ok c.push.result c.push.ensures.named (λ named. record {
+    on_ok c.push.result (c.push.ensures claim (Some nearest) one lists.not_about) (λ pushed. record {
       unstored = lists.unstored;
       window = lists.window;
       invalidators = subst (λ (o : Option Nearest). All (λ (e : Bor End). is_invalidator claim o e.now ≡ true) c.take_since.new.self.invalidators.named.items) (sym is) lists.invalidators;
-      not_about = subst (λ (o : Option Nearest). All (IsNotAboutOf claim o) c.push.new.self.named.items) (sym is)
-          (pushed (IsNotAboutOf claim (Some nearest)) _ _ _ c.in-Some-2.not_about named lists.not_about one);
+      not_about = subst (λ (o : Option Nearest). AreNotAbout claim o c.push.new.self) (sym is) pushed;
     })

@@ -1,8 +1,8 @@
 use denote.Ref.{Bor}
 use Rattle.std.proofs.Common.{◌≡◌, ◌∙◌, ℕ, Option, Some, sym, subst, true}
 use Rattle.hc_past.specs.declared.past.End.{End}
-use Rattle.hc_why.specs.Listing.{IsNotAboutOf, has_invalidated, is_invalidator, is_of, is_since_it}
-use Rattle.hc_why.proofs.ListingLemmas.{all_three, of_none, on_ok, pushed}
+use Rattle.hc_why.specs.Listing.{has_invalidated, is_invalidator, is_of, is_since_it}
+use Rattle.hc_why.proofs.ListingLemmas.{all_three, on_ok, pushed}
 use Rattle.hc_why.proofs.changes.Ends.take_since.Goals as goal
 
 pub returns-then-invalidates-clause-lists : goal.returns-then-invalidates-clause-lists
@@ -17,5 +17,5 @@ returns-then-invalidates-clause-lists c = λ claim of since before.
       window = before.window;
       invalidators = pushed (λ (e : Bor End). is_invalidator claim (Some nearest) e.now ≡ true) _ _ _ c.args.end named before.invalidators
           (all_three (is_of claim end) (is_since_it nearest end) (has_invalidated end.method end.status) of (sym since ∙ is_since) has);
-      not_about = of_none (IsNotAboutOf claim (Some nearest)) _ c.new.ensures.named;
+      not_about = c.none.ensures claim (Some nearest);
     })

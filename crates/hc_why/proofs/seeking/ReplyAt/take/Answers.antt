@@ -1,6 +1,6 @@
 use Rattle.std.proofs.Common.{sym, ◌∙◌}
 use Rattle.hc_audit.specs.Hearing.{item_judged}
-use Rattle.hc_why.proofs.SeekingLemmas.{found_later, found_newest, is_found, stays_elsewhere, stays_known}
+use Rattle.hc_why.proofs.SeekingLemmas.{found_already, found_later, found_newest, is_found, stays_elsewhere, stays_known}
 use Rattle.hc_why.proofs.seeking.ReplyAt.take.Goals as goal
 
 pub returns-then-judged-self-clause-told : goal.returns-then-judged-self-clause-told
@@ -8,14 +8,16 @@ returns-then-judged-self-clause-told g c = λ wrongs before.
     stays_elsewhere c.args.self.now wrongs c.args.judged.now.position c.args.judged.now.finding c.if-judged-self.true before
 
 pub returns-then-judged-self-clause-found : goal.returns-then-judged-self-clause-found
-returns-then-judged-self-clause-found g c = λ h before behind. found_later c.args.self.now (item_judged c.args.judged.now) h before
+returns-then-judged-self-clause-found g c = λ h before behind.
+    found_later c.args.self.now (item_judged c.args.judged.now) h (λ next. absurd (c.if-judged-self.true (behind.position ∙ sym next))) before
 
 pub returns-then-is_some-clause-told : goal.returns-then-is_some-clause-told
 returns-then-is_some-clause-told g c = λ wrongs before.
     stays_known c.args.self.now wrongs c.args.judged.now.position c.args.judged.now.finding (sym c.is_some.ensures ∙ c.if-is_some.true) before
 
 pub returns-then-is_some-clause-found : goal.returns-then-is_some-clause-found
-returns-then-is_some-clause-found g c = λ h before behind. found_later c.args.self.now (item_judged c.args.judged.now) h before
+returns-then-is_some-clause-found g c = λ h before behind.
+    found_already c.args.self.now (item_judged c.args.judged.now) h (sym c.is_some.ensures ∙ c.if-is_some.true) before
 
 pub returns-clause-told : goal.returns-clause-told
 returns-clause-told g c = λ wrongs before.

@@ -1,0 +1,2 @@
+pub mod FactLemmas
+pub mod HearingLemmas
