@@ -425,6 +425,7 @@ function is_right(kind, text, least, most) {
     if (kind == "names") return are_tokens(text)
     if (kind == "names-but-all") return are_tokens(text) && !has_part(text, "*")
     if (kind == "words") return text == "all" || are_words(text)
+    if (kind == "origin") return text !~ /:[+]?0+$/
     if (kind == "name") return length(text) <= 32 && text ~ /^[A-Za-z][-A-Za-z0-9_.]*$/
     return asked != "explain" || text != "-"
 }
@@ -438,6 +439,7 @@ function fault_of(kind, least, most,    decimal) {
         return decimal " from " least " to " most ", nor two with a hyphen between them, of which the first is no greater"
     if (kind ~ /^names/) return "not names of fields with commas between them"
     if (kind == "words") return "not added-fields, joined-lines and ranges with commas between them, nor all"
+    if (kind == "origin") return "no origin has port 0"
     if (kind == "name") return "not a letter and then at most 31 letters, digits, '-', '_' and '.'"
     return "it is read twice, so it can't be standard input"
 }

@@ -76,6 +76,13 @@ def tagged(control, again):
     return answered
 
 
+def tagged_with_a_cookie(asked):
+    """Validated by its tag, with a cookie then."""
+    if asked.fields.get("if-none-match") == '"one"':
+        return response(asked, b"", 304, cache_control="max-age=2", etag='"one"', set_cookie="a=1")
+    return response(asked, text_of(asked), cache_control="max-age=2", etag='"one"')
+
+
 def dated(asked):
     """Validated by its date."""
     status = 304 if asked.fields.get("if-modified-since") == MODIFIED else 200
@@ -146,6 +153,8 @@ ANSWERS = {
     "tagged": tagged("max-age=2", "max-age=3600"),
     "checked": tagged("max-age=3600, no-cache", "max-age=3600, no-cache"),
     "behind": tagged("max-age=1, stale-while-revalidate=60", "max-age=1, stale-while-revalidate=60"),
+    "cookied": lives("max-age=3600", set_cookie="a=1"),
+    "cookied-again": tagged_with_a_cookie,
     "dated": dated,
     "lasting": lives("max-age=3600", last_modified=MODIFIED),
     "vary": lives("max-age=3600", vary="Accept-Language"),

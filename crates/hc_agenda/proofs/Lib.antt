@@ -1,2 +1,3 @@
+pub mod LoadLemmas
 pub mod MomentsLaws
 pub mod MomentsLemmas

@@ -1,3 +1,5 @@
+pub mod Failures
+pub mod Loads
 pub mod Moments
 pub mod MomentsKept
 pub mod Places

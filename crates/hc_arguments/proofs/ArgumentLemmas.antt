@@ -27,7 +27,7 @@ use Rattle.hc_options.specs.declared.auditing.AuditTerms.{AuditTerms}
 use Rattle.hc_options.specs.declared.auditing.Minimums.{Minimums}
 use Rattle.hc_options.specs.declared.refusal.Refusal.{Refusal}
 use Rattle.hc_options.specs.declared.rows.Takes.{Takes}
-use Rattle.hc_options.specs.declared.rows.Takes.TheVariants.{FileName, Number, Size, CacheName, Positions}
+use Rattle.hc_options.specs.declared.rows.Takes.TheVariants.{FileName, Number, Size, CacheName, Positions, OriginAddress}
 use Rattle.hc_options.specs.Allowing.{AsksAllowed, allow_by, normalized_by}
 use Rattle.hc_options.specs.Auditing.{AsksAuditTerms, AsksMinimums, no_minimums, plain_audit}
 use Rattle.hc_options.specs.Commands.{IsFileName, IsWord, value_in}
@@ -42,9 +42,10 @@ use Rattle.hc_arguments.specs.declared.order.Order.{Order}
 use Rattle.hc_arguments.specs.declared.order.ProxyLimits.{ProxyLimits}
 use Rattle.hc_arguments.specs.declared.order.ProxyPatience.{ProxyPatience}
 use Rattle.hc_arguments.specs.declared.order.RecordTerms.{RecordTerms}
-use Rattle.hc_arguments.specs.Cache.{AsksCache, name_by, plain_cache}
+use Rattle.hc_arguments.specs.Cache.{AsksCache, keys_proxied, keys_served, name_by, plain_cache}
 use Rattle.hc_arguments.specs.Commands.{hcache}
 use Rattle.hc_arguments.specs.Limits.{AsksLimits, AsksPatience, AsksTerms, limit_in, plain_limits, plain_patience, plain_terms}
+use Rattle.hc_arguments.specs.Origins.{is_origin}
 use Rattle.hc_arguments.specs.Positions.{len_before_hyphen, positive_of, span_between, span_from, span_of}
 use Rattle.hc_arguments.specs.Tables.{Command, caching, command_named, connect_timeout, drain_timeout, entries_of, held, idle_timeout, max_connections}
 use Rattle.hc_arguments.specs.Tables.{origin_connections, origin_timeout, origin_total, proxying, queue_timeout, reporting, request_timeout, send_timeout, serving, taken_by}
@@ -104,9 +105,9 @@ minimums_from value = option_map (λ p. record { hits = p.0; judged = p.1 })
 abbrev audit_terms_from : (Text → Option Text) → Option AuditTerms
 audit_terms_from value = option_map (λ p. record { settings = p.0; minimums = p.1 }) (both (settings_from value) (minimums_from value))
 
-abbrev cache_from : (Text → Option Text) → Option CoreSettings
-cache_from value = option_map (λ p. record { name = p.1.1; keys = p.0; bytes = p.1.0 })
-    (both (number_or (Number 1 65536) 1024 (value (codes "keys"))) (both (number_or (Size 0) 67108864 (value (codes "bytes"))) (name_by (value (codes "name")))))
+abbrev cache_from : ℕ → (Text → Option Text) → Option CoreSettings
+cache_from usual value = option_map (λ p. record { name = p.1.1; keys = p.0; bytes = p.1.0 })
+    (both (number_or (Number 1 65536) usual (value (codes "keys"))) (both (number_or (Size 0) 67108864 (value (codes "bytes"))) (name_by (value (codes "name")))))
 
 abbrev terms_from : (Text → Option Text) → Option RecordTerms
 terms_from value = option_map (λ limit. record { strict = flag_by (value (codes "record-strict")); limit = limit }) (number_by (Size 0) (value (codes "record-limit")))
@@ -153,9 +154,9 @@ task_from Replays value = option_map ToReplay (value (codes "FILE"))
 task_from Converts value = option_map ToConvert (value (codes "FILE"))
 task_from Serves value = option_map (λ p. ToServe p.0.0 p.0.1 p.1.0.0 p.1.0.1 p.1.1)
     (both (both (value (codes "listen")) (value (codes "origin")))
-    (both (both (option_and_then (λ o. o) (number_by (Number 1 greatest_number) (value (codes "connections")))) (value (codes "record"))) (cache_from value)))
-task_from Proxies value = option_map (λ p. ToProxy p.0.0 p.0.1 (value (codes "record")) p.1.0 p.1.1.0 p.1.1.1)
-    (both (both (value (codes "listen")) (value (codes "origin"))) (both (terms_from value) (both (limits_from value) (cache_from value))))
+    (both (both (option_and_then (λ o. o) (number_by (Number 1 greatest_number) (value (codes "connections")))) (value (codes "record"))) (cache_from keys_served value)))
+task_from Proxies value = option_map (λ p. ToProxy p.0.0 p.0.1 (value (codes "record")) p.1.0 p.1.1.0 (flag_by (value (codes "store-set-cookie"))) p.1.1.1)
+    (both (both (value (codes "listen")) (value (codes "origin"))) (both (terms_from value) (both (limits_from value) (cache_from keys_proxied value))))
 
 abbrev task_by : Option Command → (Text → Option Text) → Option Task
 task_by command value = option_and_then (λ c. task_from c value) command
@@ -186,8 +187,8 @@ audit_terms_given value terms a =
     λ i. option_map (λ p. record { settings = p.0; minimums = p.1 })
     (both (settings_given value terms.settings a.settings_are i) (minimums_given value terms.minimums a.minimums_are i))
 
-cache_given : (value : Text → Option Text) (settings : CoreSettings) → AsksCache value settings → cache_from value ≡ Some settings
-cache_given value settings a =
+cache_given : (usual : ℕ) (value : Text → Option Text) (settings : CoreSettings) → AsksCache usual value settings → cache_from usual value ≡ Some settings
+cache_given usual value settings a =
     λ i. option_map (λ p. record { name = p.1.1; keys = p.0; bytes = p.1.0 }) (both (a.keys_is i) (both (a.bytes_is i) (a.name_is i)))
 
 terms_given : (value : Text → Option Text) (recorded : RecordTerms) → AsksTerms value recorded → terms_from value ≡ Some recorded
@@ -237,14 +238,14 @@ values_give value (ToShow file span) a = λ i. option_map (λ p. ToShow p.0 p.1)
 values_give value (ToReplay file) a = ap (option_map ToReplay) a
 values_give value (ToConvert file) a = ap (option_map ToConvert) a
 values_give value (ToServe listen origin connections file settings) a =
-    let set = cache_given value settings a.settings_are in
+    let set = cache_given keys_served value settings a.settings_are in
     λ i. option_map (λ p. ToServe p.0.0 p.0.1 p.1.0.0 p.1.0.1 p.1.1)
     (both (both (a.listen_is i) (a.origin_is i)) (both (both (option_and_then (λ o. o) (a.connections_is i)) (a.file_is i)) (set i)))
-values_give value (ToProxy listen origin file terms limits settings) a =
-    let set = cache_given value settings a.settings_are in
+values_give value (ToProxy listen origin file terms limits keeps_cookies settings) a =
+    let set = cache_given keys_proxied value settings a.settings_are in
     let limited = limits_given value limits a.limits_are in
     let recorded = terms_given value terms a.terms_are in
-    λ i. option_map (λ p. ToProxy p.0.0 p.0.1 (a.file_is i) p.1.0 p.1.1.0 p.1.1.1)
+    λ i. option_map (λ p. ToProxy p.0.0 p.0.1 (a.file_is i) p.1.0 p.1.1.0 (a.cookies_are i) p.1.1.1)
     (both (both (a.listen_is i) (a.origin_is i)) (both (recorded i) (both (limited i) (set i))))
 
 task_given : (command : Option Command) (value : Text → Option Text) (task : Task) → AsksBy command value task → task_by command value ≡ Some task
@@ -313,9 +314,14 @@ spanned : (span : Span) (o : Option Text) → option_and_then span_of o ≡ Some
 spanned span None is = absurd cc
 spanned span (Some text) is = some_of (span_of text) span is
 
-cache_fine : (value : Text → Option Text) (settings : CoreSettings) → AsksCache value settings → AreFine taken_by value caching
-cache_fine value settings a = (
-  numbered 1 65536 1024 settings.keys (value (codes "keys")) a.keys_is,
+-- a host and a port of an origin
+originated : (origin : Text) (o : Option Text) → o ≡ Some origin → is_origin origin ≡ true
+    → option_map_or (λ text. taken_by OriginAddress text) o false ≡ true
+originated origin o is one = ap (λ (p : Option Text). option_map_or (λ text. taken_by OriginAddress text) p false) is ∙ one
+
+cache_fine : (usual : ℕ) (value : Text → Option Text) (settings : CoreSettings) → AsksCache usual value settings → AreFine taken_by value caching
+cache_fine usual value settings a = (
+  numbered 1 65536 usual settings.keys (value (codes "keys")) a.keys_is,
   (sized 0 67108864 settings.bytes (value (codes "bytes")) a.bytes_is, (called settings.name (value (codes "name")) a.name_is, tt)),
 )
 
@@ -324,7 +330,7 @@ serving_fine : (value : Text → Option Text) (listen origin : Text) (n : ℕ) (
 serving_fine value listen origin n file settings a = (
   there taken_by taken_by_judges (value (codes "listen")) listen a.listen_is,
   (
-    there taken_by taken_by_judges (value (codes "origin")) origin a.origin_is,
+    originated origin (value (codes "origin")) a.origin_is a.origin_is_one,
     (
       numbered_there 1 greatest_number n (value (codes "connections")) a.connections_is,
       (there taken_by taken_by_judges (value (codes "record")) file a.file_is, tt),
@@ -332,16 +338,16 @@ serving_fine value listen origin n file settings a = (
   ),
 )
 
-proxying_fine : (value : Text → Option Text) (listen origin : Text) (file : Option Text) (terms : RecordTerms) (limits : ProxyLimits) (settings : CoreSettings)
-    → AsksProxy value listen origin file terms limits settings → AreFine taken_by value proxying
-proxying_fine value listen origin file terms limits settings a =
+proxying_fine : (value : Text → Option Text) (listen origin : Text) (file : Option Text) (terms : RecordTerms) (limits : ProxyLimits) (keeps_cookies : Bool) (settings : CoreSettings)
+    → AsksProxy value listen origin file terms limits keeps_cookies settings → AreFine taken_by value proxying
+proxying_fine value listen origin file terms limits keeps_cookies settings a =
     let l = a.limits_are in
     let p = a.limits_are.patience_is in
     let within = λ (least most usual : ℕ). λ (name : Text). λ (n : ℕ). λ (is : number_or (Number least most) usual (value name) ≡ Some n).
     numbered least most usual n (value name) is in (
       there taken_by taken_by_judges (value (codes "listen")) listen a.listen_is,
       (
-        there taken_by taken_by_judges (value (codes "origin")) origin a.origin_is,
+        originated origin (value (codes "origin")) a.origin_is a.origin_is_one,
         (
           any_fine taken_by taken_by_judges (value (codes "record")),
           (
@@ -370,7 +376,10 @@ proxying_fine value listen origin file terms limits settings a =
                                   within 1 86400 600 (codes "origin-total") limits.patience.origin_total p.origin_total_is,
                                   (
                                     within 0 86400 8 (codes "drain-timeout") limits.drain_timeout l.drain_timeout_is,
-                                    (numbered_if_given 1 greatest_number limits.clients (value (codes "connections")) l.clients_are, tt),
+                                    (
+                                      numbered_if_given 1 greatest_number limits.clients (value (codes "connections")) l.clients_are,
+                                      (any_fine taken_by taken_by_judges (value (codes "store-set-cookie")), tt),
+                                    ),
                                   ),
                                 ),
                               ),
@@ -410,9 +419,9 @@ values_fine value (ToShow file span) a =
 values_fine value (ToReplay file) a = (there taken_by taken_by_judges (value (codes "FILE")) file a, tt)
 values_fine value (ToConvert file) a = (there taken_by taken_by_judges (value (codes "FILE")) file a, tt)
 values_fine value (ToServe listen origin connections file settings) a =
-    appended taken_by value serving caching (serving_fine value listen origin connections file settings a) (cache_fine value settings a.settings_are)
-values_fine value (ToProxy listen origin file terms limits settings) a =
-    appended taken_by value proxying caching (proxying_fine value listen origin file terms limits settings a) (cache_fine value settings a.settings_are)
+    appended taken_by value serving caching (serving_fine value listen origin connections file settings a) (cache_fine keys_served value settings a.settings_are)
+values_fine value (ToProxy listen origin file terms limits keeps_cookies settings) a =
+    appended taken_by value proxying caching (proxying_fine value listen origin file terms limits keeps_cookies settings a) (cache_fine keys_proxied value settings a.settings_are)
 
 -- and what is asked isn't refused
 none_outside : (command : Option Command) (value : Text → Option Text) (task : Task) (e : Error) (refusal : Refusal) → command ≡ Some (command_of task)
@@ -450,14 +459,14 @@ taken_size true true value keys is same = let e : value ≡ keys = search rules 
 taken_size true false value keys is same = absurd cc
 taken_size false b value keys is same = absurd cc
 
-good_size : (o : Option Text) (keys : ℕ) → number_or (Number 1 65536) 1024 o ≡ Some keys → is_size keys ≡ true
-good_size None keys is = let e : 1024 ≡ keys = search rules in subst (λ n. is_size n ≡ true) e refl
-good_size (Some text) keys is = taken_size (is_number text) (is_size (digits_value 10 text)) (digits_value 10 text) keys refl is
+good_size : (usual : ℕ) (o : Option Text) (keys : ℕ) → is_size usual ≡ true → number_or (Number 1 65536) usual o ≡ Some keys → is_size keys ≡ true
+good_size usual None keys good is = let e : usual ≡ keys = search rules in subst (λ n. is_size n ≡ true) e good
+good_size usual (Some text) keys good is = taken_size (is_number text) (is_size (digits_value 10 text)) (digits_value 10 text) keys refl is
 
-good_cache : (value : Text → Option Text) (settings : CoreSettings) → AsksCache value settings → AreGood settings
-good_cache value settings asks = record {
+good_cache : (usual : ℕ) (value : Text → Option Text) (settings : CoreSettings) → is_size usual ≡ true → AsksCache usual value settings → AreGood settings
+good_cache usual value settings good asks = record {
   name = good_name (value (codes "name")) settings.name asks.name_is;
-  size = good_size (value (codes "keys")) settings.keys asks.keys_is;
+  size = good_size usual (value (codes "keys")) settings.keys good asks.keys_is;
 }
 
 -- positions are positive, and those up to a last one too
@@ -498,8 +507,8 @@ possible_from command value (ToExplain file asked) asks = tt
 possible_from command value (ToShow file span) asks = last_is_one (value (codes "POSITION[-POSITION]")) span asks.1.span_is
 possible_from command value (ToReplay file) asks = tt
 possible_from command value (ToConvert file) asks = tt
-possible_from command value (ToServe listen origin connections file settings) asks = good_cache value settings asks.1.settings_are
-possible_from command value (ToProxy listen origin file asked limits settings) asks = good_cache value settings asks.1.settings_are
+possible_from command value (ToServe listen origin connections file settings) asks = good_cache keys_served value settings refl asks.1.settings_are
+possible_from command value (ToProxy listen origin file asked limits keeps_cookies settings) asks = good_cache keys_proxied value settings refl asks.1.settings_are
 
 -- words that ask something are refused for want of memory alone
 pub asked_from : (words : List Text) (task : Task) (e : Error) → fault_of hcache words ≡ [] → Asks words task → IsRefused words e → kind_of e ≡ OutOfMemory
@@ -895,14 +904,15 @@ module _ (name listen origin number file : Text) where
   unfolding clap_on_literals
   no_serve_fault = refl
 
-pub serve_words : (name listen origin number file : Text) (connections : ℕ) → positive_of number ≡ Some connections
-    → AreWordsFor (name ∷ service_words listen origin number file) (ToServe listen origin connections file plain_cache)
-serve_words name listen origin number file connections counts = record {
+pub serve_words : (name listen origin number file : Text) (connections : ℕ) → is_origin origin ≡ true → positive_of number ≡ Some connections
+    → AreWordsFor (name ∷ service_words listen origin number file) (ToServe listen origin connections file (plain_cache keys_served))
+serve_words name listen origin number file connections one counts = record {
   asks = (
     is_serve name listen origin number file,
     record {
       listen_is = listen_given name listen origin number file;
       origin_is = origin_given name listen origin number file;
+      origin_is_one = one;
       connections_is = ap (number_by (Number 1 greatest_number)) (number_given name listen origin number file) ∙ ap (option_map Some) counts;
       file_is = record_given name listen origin number file;
       settings_are = record {
@@ -957,7 +967,11 @@ module _ (name listen origin : Text) where
     clients_are = refl;
   }
 
-  plain_proxy : AsksCache (value_in (subcommand_of hcache (name ∷ proxy_words listen origin))) plain_cache
+  no_cookies : flag_by (value_in (subcommand_of hcache (name ∷ proxy_words listen origin)) (codes "store-set-cookie")) ≡ false
+  unfolding clap_on_literals
+  no_cookies = refl
+
+  plain_proxy : AsksCache keys_proxied (value_in (subcommand_of hcache (name ∷ proxy_words listen origin))) (plain_cache keys_proxied)
   unfolding clap_on_literals
   plain_proxy = record { keys_is = refl; bytes_is = refl; name_is = refl }
 
@@ -969,16 +983,19 @@ module _ (name listen origin : Text) where
   unfolding clap_on_literals
   no_proxy_fault = refl
 
-pub words_of_proxy : (name listen origin : Text) → AreWordsFor (name ∷ proxy_words listen origin) (ToProxy listen origin None plain_terms plain_limits plain_cache)
-words_of_proxy name listen origin = record {
+pub words_of_proxy : (name listen origin : Text) → is_origin origin ≡ true
+    → AreWordsFor (name ∷ proxy_words listen origin) (ToProxy listen origin None plain_terms plain_limits false (plain_cache keys_proxied))
+words_of_proxy name listen origin one = record {
   asks = (
     is_proxy name listen origin,
     record {
       listen_is = proxy_listens name listen origin;
       origin_is = proxy_forwards name listen origin;
+      origin_is_one = one;
       file_is = no_record name listen origin;
       terms_are = no_terms name listen origin;
       limits_are = no_limits name listen origin;
+      cookies_are = no_cookies name listen origin;
       settings_are = plain_proxy name listen origin;
     },
   );

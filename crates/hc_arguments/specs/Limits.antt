@@ -3,7 +3,7 @@ use Rattle.std.specs.Prelude.{◌≡◌, ⊤, ℕ, Option, Some, None, codes, fa
 use Rattle.clap.specs.Words.{Text}
 use Rattle.hc_transcript.specs.Limits.{greatest_number}
 use Rattle.hc_options.specs.declared.rows.Takes.{Takes}
-use Rattle.hc_options.specs.declared.rows.Takes.TheVariants.{AnyText, FileName, Count, Number, Size, AllowedWords, Names, VaryNames, CacheName, Positions}
+use Rattle.hc_options.specs.declared.rows.Takes.TheVariants.{AnyText, FileName, Count, Number, Size, AllowedWords, Names, VaryNames, CacheName, Positions, OriginAddress}
 use Rattle.hc_options.specs.Rows.{Entry}
 use Rattle.hc_options.specs.Values.{flag_by, number_by, number_or}
 use Rattle.hc_arguments.specs.declared.order.ProxyLimits.{ProxyLimits}
@@ -24,6 +24,7 @@ TakesNumbers Names = ⊥
 TakesNumbers VaryNames = ⊥
 TakesNumbers CacheName = ⊥
 TakesNumbers Positions = ⊥
+TakesNumbers OriginAddress = ⊥
 
 -- the values, by their names, say how far `proxy` records
 pub record AsksTerms (value : Text → Option Text) (terms : RecordTerms) : Type 0 where

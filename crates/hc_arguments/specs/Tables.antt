@@ -6,8 +6,9 @@ use Rattle.hc_transcript.specs.Limits.{greatest_number}
 use Rattle.hc_service.specs.Settings.{is_name}
 use Rattle.hc_options.specs.declared.rows.Kind.TheVariants.{Valued}
 use Rattle.hc_options.specs.declared.rows.Takes.{Takes}
-use Rattle.hc_options.specs.declared.rows.Takes.TheVariants.{AnyText, FileName, Count, Number, Size, AllowedWords, Names, VaryNames, CacheName, Positions}
+use Rattle.hc_options.specs.declared.rows.Takes.TheVariants.{AnyText, FileName, Count, Number, Size, AllowedWords, Names, VaryNames, CacheName, Positions, OriginAddress}
 use Rattle.hc_options.specs.Rows.{Entry, argument, audit_entries, audited, flag, is_taken, judging, option, terms}
+use Rattle.hc_arguments.specs.Origins.{is_origin}
 use Rattle.hc_arguments.specs.Positions.{span_of}
 
 -- ---- which values are taken
@@ -16,6 +17,7 @@ use Rattle.hc_arguments.specs.Positions.{span_of}
 abbrev pub taken_by : Takes → Text → Bool
 taken_by CacheName text = is_name text
 taken_by Positions text = is_some (span_of text)
+taken_by OriginAddress text = is_origin text
 taken_by AnyText text = is_taken AnyText text
 taken_by FileName text = is_taken FileName text
 taken_by Count text = is_taken Count text
@@ -52,7 +54,7 @@ reporting = flag (codes "json") ∷ option (codes "baseline") AnyText ∷ flag (
 
 -- between whom is served, how long, and where that is recorded
 abbrev pub serving : List Entry
-serving = wanted (codes "listen") AnyText ∷ wanted (codes "origin") AnyText ∷ wanted (codes "connections") (Number 1 greatest_number)
+serving = wanted (codes "listen") AnyText ∷ wanted (codes "origin") OriginAddress ∷ wanted (codes "connections") (Number 1 greatest_number)
     ∷ wanted (codes "record") AnyText ∷ []
 
 -- the limits of a proxy; times are in seconds
@@ -89,12 +91,12 @@ origin_total = option (codes "origin-total") (Number 1 86400)
 abbrev pub drain_timeout : Entry
 drain_timeout = option (codes "drain-timeout") (Number 0 86400)
 
--- between whom a proxy stands, where and how far that is recorded, and within which limits
+-- between whom a proxy stands, where and how far that is recorded, within which limits, and whether responses that set a cookie are stored
 abbrev pub proxying : List Entry
-proxying = wanted (codes "listen") AnyText ∷ wanted (codes "origin") AnyText ∷ option (codes "record") AnyText
+proxying = wanted (codes "listen") AnyText ∷ wanted (codes "origin") OriginAddress ∷ option (codes "record") AnyText
     ∷ option (codes "record-limit") (Size 0) ∷ flag (codes "record-strict") ∷ max_connections ∷ origin_connections ∷ held
     ∷ idle_timeout ∷ request_timeout ∷ send_timeout ∷ queue_timeout ∷ connect_timeout ∷ origin_timeout ∷ origin_total ∷ drain_timeout
-    ∷ option (codes "connections") (Number 1 greatest_number) ∷ []
+    ∷ option (codes "connections") (Number 1 greatest_number) ∷ flag (codes "store-set-cookie") ∷ []
 
 -- what a cache is
 abbrev pub caching : List Entry

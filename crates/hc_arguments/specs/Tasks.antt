@@ -1,5 +1,5 @@
 -- What the words of a command line ask, and why they are refused.
-use Rattle.std.specs.Prelude.{◌≡◌, ◌<◌, ◌⊎◌, ⊤, ℕ, List, [], ◌∷◌, ◌++◌, Option, None, Some, Bool, false, codes, option_and_then, option_map}
+use Rattle.std.specs.Prelude.{◌≡◌, ◌<◌, ◌⊎◌, ⊤, ℕ, List, [], ◌∷◌, ◌++◌, Option, None, Some, Bool, false, true, codes, option_and_then, option_map}
 use Rattle.std.specs.Str.{bytes_eq}
 use Rattle.clap.specs.Words.{HasKind, Row, Text, fault_of, kind_of, subcommand_of}
 use Rattle.clap.specs.declared.error.Error.{Error}
@@ -23,9 +23,10 @@ use Rattle.hc_arguments.specs.declared.order.Order.TheVariants.{Audit, Report, E
 use Rattle.hc_arguments.specs.declared.order.ProxyLimits.{ProxyLimits}
 use Rattle.hc_arguments.specs.declared.order.RecordTerms.{RecordTerms}
 use Rattle.hc_arguments.specs.declared.order.ReportTerms.{ReportTerms}
-use Rattle.hc_arguments.specs.Cache.{AsksCache}
+use Rattle.hc_arguments.specs.Cache.{AsksCache, keys_proxied, keys_served}
 use Rattle.hc_arguments.specs.Commands.{hcache}
 use Rattle.hc_arguments.specs.Limits.{AsksLimits, AsksTerms}
+use Rattle.hc_arguments.specs.Origins.{is_origin}
 use Rattle.hc_arguments.specs.Positions.{span_of}
 use Rattle.hc_arguments.specs.Tables.{Command, command_named, entries_of, taken_by}
 use Rattle.hc_arguments.specs.Tables.Command.{Audits, Reports, Explains, Shows, Replays, Converts, Serves, Proxies}
@@ -70,8 +71,8 @@ pub data Task : Type 0 where
   -- to serve so many connections there, before that origin, to record them to that file, from a cache of those settings
   ToServe : (listen origin : Text) (connections : ℕ) (file : Text) (settings : CoreSettings) → Task
   -- to serve all that connect there at once, before that origin, to record them to that file, if any, on those terms, within those
-  -- limits, from a cache of those settings
-  ToProxy : (listen origin : Text) (file : Option Text) (terms : RecordTerms) (limits : ProxyLimits) (settings : CoreSettings) → Task
+  -- limits, from a cache of those settings, which stores responses that set a cookie, or doesn't
+  ToProxy : (listen origin : Text) (file : Option Text) (terms : RecordTerms) (limits : ProxyLimits) (keeps_cookies : Bool) (settings : CoreSettings) → Task
 
 abbrev pub command_of : Task → Command
 command_of (ToAudit file terms) = Audits
@@ -81,7 +82,7 @@ command_of (ToShow file span) = Shows
 command_of (ToReplay file) = Replays
 command_of (ToConvert file) = Converts
 command_of (ToServe listen origin connections file settings) = Serves
-command_of (ToProxy listen origin file terms limits settings) = Proxies
+command_of (ToProxy listen origin file terms limits keeps_cookies settings) = Proxies
 
 abbrev pub task_of : Order → Task
 task_of (Audit file terms) = ToAudit file.now terms
@@ -91,7 +92,7 @@ task_of (Show file span) = ToShow file.now span
 task_of (Replay file) = ToReplay file.now
 task_of (Convert file) = ToConvert file.now
 task_of (Serve s) = ToServe s.listen.now s.origin.now s.connections s.file.now s.settings
-task_of (Proxy p) = ToProxy p.listen.now p.origin.now (option_map (λ file. file.now) p.file) p.terms p.limits p.settings
+task_of (Proxy p) = ToProxy p.listen.now p.origin.now (option_map (λ file. file.now) p.file) p.terms p.limits p.keeps_cookies p.settings
 
 -- the values, by their names, ask that of `report`
 pub record AsksReport (value : Text → Option Text) (file : Text) (terms : AuditTerms) (form : Form) : Type 0 where
@@ -120,18 +121,21 @@ pub record AsksShow (value : Text → Option Text) (file : Text) (span : Span) :
 pub record AsksService (value : Text → Option Text) (listen origin : Text) (connections : ℕ) (file : Text) (settings : CoreSettings) : Type 0 where
   pub listen_is : value (codes "listen") ≡ Some listen
   pub origin_is : value (codes "origin") ≡ Some origin
+  pub origin_is_one : is_origin origin ≡ true
   pub connections_is : number_by (Number 1 greatest_number) (value (codes "connections")) ≡ Some (Some connections)
   pub file_is : value (codes "record") ≡ Some file
-  pub settings_are : AsksCache value settings
+  pub settings_are : AsksCache keys_served value settings
 
 -- and that of `proxy`
-pub record AsksProxy (value : Text → Option Text) (listen origin : Text) (file : Option Text) (terms : RecordTerms) (limits : ProxyLimits) (settings : CoreSettings) : Type 0 where
+pub record AsksProxy (value : Text → Option Text) (listen origin : Text) (file : Option Text) (terms : RecordTerms) (limits : ProxyLimits) (keeps_cookies : Bool) (settings : CoreSettings) : Type 0 where
   pub listen_is : value (codes "listen") ≡ Some listen
   pub origin_is : value (codes "origin") ≡ Some origin
+  pub origin_is_one : is_origin origin ≡ true
   pub file_is : value (codes "record") ≡ file
   pub terms_are : AsksTerms value terms
   pub limits_are : AsksLimits value limits
-  pub settings_are : AsksCache value settings
+  pub cookies_are : flag_by (value (codes "store-set-cookie")) ≡ keeps_cookies
+  pub settings_are : AsksCache keys_proxied value settings
 
 abbrev pub ValuesAsk : (Text → Option Text) → Task → Type 0
 ValuesAsk value (ToAudit file terms) = AsksAudit value file terms
@@ -141,7 +145,7 @@ ValuesAsk value (ToShow file span) = AsksShow value file span
 ValuesAsk value (ToReplay file) = value (codes "FILE") ≡ Some file
 ValuesAsk value (ToConvert file) = value (codes "FILE") ≡ Some file
 ValuesAsk value (ToServe listen origin connections file settings) = AsksService value listen origin connections file settings
-ValuesAsk value (ToProxy listen origin file terms limits settings) = AsksProxy value listen origin file terms limits settings
+ValuesAsk value (ToProxy listen origin file terms limits keeps_cookies settings) = AsksProxy value listen origin file terms limits keeps_cookies settings
 
 -- the command and its values ask that
 abbrev pub AsksBy : Option Command → (Text → Option Text) → Task → Type 0
@@ -163,7 +167,7 @@ Asks words = AsksIn (subcommand_of hcache words)
 abbrev pub CanBeDone : Task → Type 0
 CanBeDone (ToShow file span) = 0 < span.last
 CanBeDone (ToServe listen origin connections file settings) = AreGood settings
-CanBeDone (ToProxy listen origin file terms limits settings) = AreGood settings
+CanBeDone (ToProxy listen origin file terms limits keeps_cookies settings) = AreGood settings
 CanBeDone task = ⊤
 
 -- ---- plain words

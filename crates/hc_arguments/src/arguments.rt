@@ -1,6 +1,6 @@
 //! What the words of a command line ask.
 
-ghost use Rattle.std.specs.Prelude.{◌≡◌, ◌∷◌, [], IfErr, IfOk, MatchResult, ℕ, Some, None, codes, map};
+ghost use Rattle.std.specs.Prelude.{◌≡◌, ◌∷◌, [], IfErr, IfOk, MatchResult, ℕ, Some, None, codes, false, map, true};
 ghost use Rattle.clap.specs.Words.{HasKind, Text, fault_of, first_value, found_of, kind_of, subcommand_of, subcommand_rows_of};
 ghost use Rattle.hc_options.specs.Auditing.{plain_audit};
 ghost use Rattle.hc_options.specs.Commands.{IsFileName, IsWord};
@@ -9,9 +9,10 @@ ghost use Rattle.hc_options.specs.Rows.{IsAmong, entry_of};
 ghost use Rattle.hc_options.specs.Values.{number_by};
 ghost use Rattle.hc_options.specs.declared.rows.Takes.TheVariants.{Number};
 ghost use Rattle.hc_transcript.specs.Limits.{greatest_number};
-ghost use Rattle.hc_arguments.specs.Cache.{plain_cache};
+ghost use Rattle.hc_arguments.specs.Cache.{keys_proxied, keys_served, plain_cache};
 ghost use Rattle.hc_arguments.specs.Commands.{hcache};
 ghost use Rattle.hc_arguments.specs.Limits.{TakesNumbers, AsksLimits, AsksPatience, AsksTerms, limit_in, plain_limits, plain_terms};
+ghost use Rattle.hc_arguments.specs.Origins.{is_origin};
 ghost use Rattle.hc_arguments.specs.Positions.{positive_of};
 ghost use Rattle.hc_arguments.specs.Tables.{Command, proxying, taken_by};
 ghost use Rattle.hc_arguments.specs.Tables.Command.{Audits, Converts, Explains, Proxies, Replays, Reports, Serves, Shows};
@@ -23,11 +24,12 @@ use crate::command::{command, command_named};
 use crate::order::{
     ExplainTerms, Order, ProxyLimits, ProxyPatience, Proxying, RecordTerms, ReportTerms, Serving,
 };
+use crate::origins::is_origin;
 use crate::positions::span_of;
 use crate::rows::{
     CLIENTS, CONNECT_TIMEOUT, CONNECTIONS, DRAIN_TIMEOUT, EXPLAINED, HELD, IDLE_TIMEOUT,
-    MAX_CONNECTIONS, ORIGIN_CONNECTIONS, ORIGIN_TIMEOUT, ORIGIN_TOTAL, POSITION, QUEUE_TIMEOUT,
-    RECORD_LIMIT, REQUEST_TIMEOUT, SEND_TIMEOUT, SPAN,
+    MAX_CONNECTIONS, ORIGIN, ORIGIN_CONNECTIONS, ORIGIN_TIMEOUT, ORIGIN_TOTAL, POSITION,
+    QUEUE_TIMEOUT, RECORD_LIMIT, REQUEST_TIMEOUT, SEND_TIMEOUT, SPAN,
 };
 use clap::error::ErrorKind;
 use clap::{ArgMatches, Error};
@@ -37,6 +39,12 @@ use hc_options::{
 };
 use std::alloc::{AllocError, Global};
 use std::convert::AsStr;
+
+/// Of so many targets `serve` keeps responses without `--keys`.
+const KEYS_SERVED: u64 = 1_024;
+
+/// And so many `proxy`: as many as it may, since `--bytes` bounds their octets.
+const KEYS_PROXIED: u64 = 65_536;
 
 /// What the words ask. The first word is the program's name.
 ///
@@ -73,15 +81,16 @@ pub fn parsed<'a, S: AsStr>(alloc: Global, words: &'a [S]) -> Result<Order<'a>, 
         → map S.text words.entry.now ≡ name ∷ codes "convert" ∷ file ∷ []
         → MatchResult result (λ order. task_of order ≡ ToConvert file)
         (λ error. kind_of error ≡ ErrorKind.OutOfMemory) }
-    // And `serve` gives the values of the four options that it needs, each behind its `=`, and the plain cache.
+    // And `serve` gives the values of the four options that it needs, each behind its `=`, and the plain cache, where the
+    // origin has no port 0.
     ensures serve { (name listen origin number file : Text) (connections : ℕ)
-        → positive_of number ≡ Some connections
+        → is_origin origin ≡ true → positive_of number ≡ Some connections
         → map S.text words.entry.now ≡ name ∷ service_words listen origin number file
-        → MatchResult result (λ order. task_of order ≡ ToServe listen origin connections file plain_cache)
+        → MatchResult result (λ order. task_of order ≡ ToServe listen origin connections file (plain_cache keys_served))
         (λ error. kind_of error ≡ ErrorKind.OutOfMemory) }
     // And `proxy` those of the two that it needs, no file, and the plain terms, limits and cache.
-    ensures proxy { (name listen origin : Text) → map S.text words.entry.now ≡ name ∷ proxy_words listen origin
-        → MatchResult result (λ order. task_of order ≡ ToProxy listen origin None plain_terms plain_limits plain_cache)
+    ensures proxy { (name listen origin : Text) → is_origin origin ≡ true → map S.text words.entry.now ≡ name ∷ proxy_words listen origin
+        → MatchResult result (λ order. task_of order ≡ ToProxy listen origin None plain_terms plain_limits false (plain_cache keys_proxied))
         (λ error. kind_of error ≡ ErrorKind.OutOfMemory) }
 
     // Other words give what they say, where the command line has no fault and the values are in their ranges.
@@ -233,9 +242,12 @@ fn serve_in<'a>(alloc: Global, found: &ArgMatches<'a>) -> Result<Order<'a>, Refu
 {
     let listen = required(found, "listen")?;
     let origin = required(found, "origin")?;
+    if !is_origin(origin) {
+        return Err(Refusal::Value(&ORIGIN));
+    }
     let file = required(found, "record")?;
     let connections = connections_in(found)?;
-    let settings = cache_in(alloc, found)?;
+    let settings = cache_in(alloc, found, KEYS_SERVED)?;
     Ok(Order::Serve(Serving {
         listen,
         origin,
@@ -261,13 +273,19 @@ fn proxy_in<'a>(alloc: Global, found: &ArgMatches<'a>) -> Result<Order<'a>, Refu
     ensures ok { IfOk result (λ order. AsksBy (Some Proxies) (first_value (found_of found.now)) (task_of order)) }
     ensures err { IfErr result (RefusesBy (Some Proxies) (first_value (found_of found.now))) }
 {
+    let listen = required(found, "listen")?;
+    let origin: &str = required(found, "origin")?;
+    if !is_origin(origin) {
+        return Err(Refusal::Value(&ORIGIN));
+    }
     Ok(Order::Proxy(Proxying {
-        listen: required(found, "listen")?,
-        origin: required(found, "origin")?,
+        listen,
+        origin,
         file: found.get_str("record"),
         terms: terms_in(found)?,
         limits: limits_in(found)?,
-        settings: cache_in(alloc, found)?,
+        keeps_cookies: flag_in(found, "store-set-cookie"),
+        settings: cache_in(alloc, found, KEYS_PROXIED)?,
     }))
 }
 

@@ -13,21 +13,22 @@ use hc_options::{Refusal, number_or};
 use hc_service::{CoreSettings, is_name};
 use std::alloc::{AllocError, Global};
 
-/// The most targets of which responses are kept, without `--keys`.
-const USUAL_KEYS: u64 = 1_024;
-
 /// The most octets that are kept, without `--bytes`.
 const USUAL_BYTES: u64 = 67_108_864;
 
 /// The name of the cache, without `--name`.
 const USUAL_NAME: &[u8] = b"hcache";
 
-/// What the cache is that a command asks for.
-pub(crate) fn cache_in(alloc: Global, found: &ArgMatches<'_>) -> Result<CoreSettings, Refusal>
-    ensures ok { IfOk result (AsksCache (first_value (found_of found.now))) }
+/// What the cache is that a command asks for, which keeps so many targets without `--keys`.
+pub(crate) fn cache_in(
+    alloc: Global,
+    found: &ArgMatches<'_>,
+    usual_keys: u64,
+) -> Result<CoreSettings, Refusal>
+    ensures ok { IfOk result (AsksCache usual_keys (first_value (found_of found.now))) }
     ensures err { IfErr result (Refuses taken_by caching (first_value (found_of found.now))) }
 {
-    let keys = number_or(found, &KEYS, USUAL_KEYS)?;
+    let keys = number_or(found, &KEYS, usual_keys)?;
     let bytes = number_or(found, &BYTES, USUAL_BYTES)?;
     let Some(name) = name_by(alloc, found.get_str("name"))? else {
         return Err(Refusal::Value(&NAME));

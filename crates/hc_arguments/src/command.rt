@@ -4,8 +4,8 @@ ghost use Rattle.hc_options.specs.Commands.{IsMade};
 ghost use Rattle.hc_arguments.specs.Commands.{convert, explain, hcache, judges_alone, proxy, replay, report, serve, show};
 
 use crate::rows::{
-    CACHING, CONVERTED, EXPLAINING, EXPLAINING_FORM, PROXYING, REPLAYED, REPORTING, SERVING,
-    SHOWING,
+    CACHING, CONVERTED, EXPLAINING, EXPLAINING_FORM, PROXY_CACHING, PROXYING, REPLAYED, REPORTING,
+    SERVING, SHOWING,
 };
 use clap::Command;
 use hc_options::{
@@ -85,7 +85,7 @@ const PROXY_STATUSES: &str = "\
 Exit status:
   0   it was stopped, or all of --connections came and went
   3   not served on: standard error says `error: memory` or `error: device`
-  64  the command line is wrong: standard error says how";
+  64  the command line is wrong, or --record names a pipe, say: standard error says how";
 
 /// The whole command.
 pub(crate) fn command<'a>(alloc: Global) -> Result<Command<'a>, AllocError>
@@ -213,5 +213,5 @@ fn proxy_command<'a>(alloc: Global) -> Result<Command<'a>, AllocError>
 {
     let bare = begun(alloc, "proxy", "hcache proxy", PROXY_ABOUT, PROXY_STATUSES);
     let proxying = with_rows(alloc, bare, &PROXYING);
-    with_rows(alloc, proxying, &CACHING)
+    with_rows(alloc, proxying, &PROXY_CACHING)
 }

@@ -5,6 +5,7 @@ mod arguments;
 mod cache;
 mod command;
 mod order;
+mod origins;
 mod positions;
 mod rows;
 

@@ -108,6 +108,8 @@ pub struct Proxying<'a> {
     pub terms: RecordTerms,
     /// How much it takes on at once, and for how long.
     pub limits: ProxyLimits,
+    /// Whether responses that set a cookie are stored, too.
+    pub keeps_cookies: bool,
     /// What the cache is: one can be.
     pub settings: CoreSettings,
 }

@@ -112,11 +112,11 @@ const LISTEN: Row = Row {
     help: "Where clients connect to",
 };
 
-const ORIGIN: Row = Row {
+pub(crate) const ORIGIN: Row = Row {
     name: "origin",
     kind: Kind::Valued,
     value: "HOST:PORT",
-    takes: Takes::AnyText,
+    takes: Takes::OriginAddress,
     required: true,
     help: "Where requests are forwarded to",
 };
@@ -148,8 +148,8 @@ const RECORD_IF_GIVEN: Row = Row {
     value: "FILE",
     takes: Takes::AnyText,
     required: false,
-    help: "The transcript, a new or an empty file; nothing is recorded without the option. Where it can't be \
-        written on, it ends there, and serving goes on",
+    help: "The transcript, a new or an empty file, or /dev/null; nothing is recorded without the option. Where it \
+        can't be written on, it ends there, and serving goes on",
 };
 
 pub(crate) const RECORD_LIMIT: Row = Row {
@@ -284,8 +284,18 @@ pub(crate) const CLIENTS: Row = Row {
         it serves until it is stopped without the option",
 };
 
-/// Between whom a proxy stands, where and how far that is recorded, and within which limits.
-pub(crate) const PROXYING: [Row; 17] = [
+const STORE_SET_COOKIE: Row = Row {
+    name: "store-set-cookie",
+    kind: Kind::Flag,
+    value: "",
+    takes: Takes::AnyText,
+    required: false,
+    help: "Responses that set a cookie are kept, too, and given to other clients with their Set-Cookie; without the option \
+        none is kept",
+};
+
+/// Between whom a proxy stands, where and how far that is recorded, within which limits, and what it stores beside the usual.
+pub(crate) const PROXYING: [Row; 18] = [
     LISTEN,
     ORIGIN,
     RECORD_IF_GIVEN,
@@ -303,6 +313,7 @@ pub(crate) const PROXYING: [Row; 17] = [
     ORIGIN_TOTAL,
     DRAIN_TIMEOUT,
     CLIENTS,
+    STORE_SET_COOKIE,
 ];
 
 pub(crate) const KEYS: Row = Row {
@@ -336,3 +347,15 @@ pub(crate) const NAME: Row = Row {
 
 /// What the cache is.
 pub(crate) const CACHING: [Row; 3] = [KEYS, BYTES, NAME];
+
+const PROXY_KEYS: Row = Row {
+    name: "keys",
+    kind: Kind::Valued,
+    value: "N",
+    takes: Takes::Number(1, 65_536),
+    required: false,
+    help: "The most targets of which responses are kept: a decimal from 1 to 65536, and 65536 without the option",
+};
+
+/// What the cache of a proxy is.
+pub(crate) const PROXY_CACHING: [Row; 3] = [PROXY_KEYS, BYTES, NAME];

@@ -1,5 +1,5 @@
 -- Stores that are filled, asked and given responses.
-use Rattle.std.specs.Prelude.{ℕ, zero, suc, ◌*◌, ◌%◌, List, [], ◌∷◌, ◌++◌, Option, Some, None}
+use Rattle.std.specs.Prelude.{ℕ, true, zero, suc, ◌*◌, ◌%◌, List, [], ◌∷◌, ◌++◌, Option, Some, None}
 use Rattle.std.specs.List.{fold}
 use Rattle.std.specs.Option.{option_map}
 use Rattle.hc_fields.specs.declared.fields.Field.{Field}
@@ -27,7 +27,7 @@ given target stored store = holding (after_put store.keys store.bytes target sto
 
 -- a store of so many keys that was given the first so many responses
 abbrev pub filled : ℕ → ℕ → Holdings
-filled keys zero = empty keys 67108864
+filled keys zero = empty keys 67108864 true
 filled keys (suc number) = given (target_of number) (stored_of number) (filled keys number)
 
 -- a store behind the question for a target, if it has a response for it

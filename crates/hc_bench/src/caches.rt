@@ -4,7 +4,7 @@ use crate::trouble::Trouble;
 use hc_events::{Event, Happening};
 use hc_fields::Octets;
 use hc_machine::Core;
-use hc_service::{Action, CoreSettings, StepFault};
+use hc_service::{Action, CoreOptions, CoreSettings, StepFault};
 use std::alloc::Global;
 use std::hash::BuildHasherDefault;
 
@@ -18,7 +18,11 @@ const ROOM: usize = 65_536;
 pub fn empty(alloc: Global, keys: usize, bytes: u64) -> Result<Core, Trouble> {
     let name = Octets::from_slice(alloc, b"hcache")?;
     let settings = CoreSettings { name, keys, bytes };
-    Ok(Core::with_room(alloc, settings, BuildHasherDefault::new(), ROOM)?)
+    let options = CoreOptions {
+        connections: ROOM,
+        keeps_cookies: true,
+    };
+    Ok(Core::with_options(alloc, settings, BuildHasherDefault::new(), options)?)
 }
 
 /// Hands the cache what happens at that moment, and answers what it does.

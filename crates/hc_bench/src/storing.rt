@@ -65,6 +65,7 @@ fn put_one<S: BuildHasher>(
 {
     match store.put(target, stored) {
         Put::Stored => Ok(()),
+        Put::SetsCookie => Err(Trouble::NotStored),
         Put::TooLarge => Err(Trouble::NotStored),
         Put::NoMemory => Err(Trouble::Memory),
     }
@@ -88,7 +89,7 @@ pub fn filled(alloc: Global, keys: usize) -> Result<Store, Trouble>
     requires few { keys ≤ 65536 }
     ensures { IfOk result (λ store. store ≡ filled keys keys) }
 {
-    let mut store = Store::new(alloc, keys, BYTES)?;
+    let mut store = Store::new(alloc, keys, BYTES, true)?;
     'keys: for number in 0..keys {
         put_number(alloc, &mut store, number)?;
     }

@@ -1,10 +1,11 @@
 //! What the program does, over any system and any two writers.
 ghost use Rattle.std.specs.Io.KnownBytes.{Keeps};
-ghost use Rattle.std.specs.Prelude.{◌≡◌, ◌⊎◌, ◌<◌, ◌∷◌, [], ℕ, None, Some, codes, false, map};
+ghost use Rattle.std.specs.Prelude.{◌≡◌, ◌⊎◌, ◌<◌, ◌∷◌, [], ℕ, None, Some, codes, false, map, true};
 ghost use Rattle.clap.specs.Words.{Text, fault_of};
 ghost use Rattle.hc_options.specs.Auditing.{no_minimums, plain_audit};
 ghost use Rattle.hc_options.specs.Commands.{IsFileName, IsWord};
 ghost use Rattle.hc_arguments.specs.Commands.{hcache};
+ghost use Rattle.hc_arguments.specs.Origins.{is_origin};
 ghost use Rattle.hc_arguments.specs.Positions.{positive_of};
 ghost use Rattle.hc_arguments.specs.Tasks.{Asks, CanBeDone, Task, form_of, proxy_words, service_words, task_of};
 ghost use Rattle.hc_auditing.specs.Audit.{Answers};
@@ -101,13 +102,13 @@ where
 
     // And `serve` with the four options that it needs, each value behind its `=`, by serving.
     ensures serve { (name listen origin number file : Text) (connections : ℕ)
-        → positive_of number ≡ Some connections
+        → is_origin origin ≡ true → positive_of number ≡ Some connections
         → map S.text words.now ≡ name ∷ service_words listen origin number file
         → Served result (W.contents output.old) (W.contents output.new)
         (E.contents faults.old) (E.contents faults.new) }
 
     // And `proxy` with the two options that it needs by serving many clients at once.
-    ensures proxy { (name listen origin : Text)
+    ensures proxy { (name listen origin : Text) → is_origin origin ≡ true
         → map S.text words.now ≡ name ∷ proxy_words listen origin
         → Proxied result (W.contents output.old) (W.contents output.new)
         (E.contents faults.old) (E.contents faults.new) }

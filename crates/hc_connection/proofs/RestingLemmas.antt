@@ -27,7 +27,8 @@ use Rattle.hc_connection.specs.declared.client_side.ClientSide.{ClientSide}
 use Rattle.hc_connection.specs.Connections.{HasPassed}
 use Rattle.hc_connection.specs.Sides.{IsUntouched, Opens, Rests}
 use Rattle.hc_connection.proofs.ForwardLemmas.{none_is}
-use Rattle.hc_connection.specs.Moves.{AreOf, IsOf, earlier_or, first_in, is_closed_in, is_ended_in, occurs}
+use Rattle.hc_connection.specs.Moves.{AreOf, IsOf, earlier_or, first_in, is_closed_in, is_ended_in}
+use Rattle.hc_link_traits.specs.Telling.{occurs}
 
 -- ---- the log tells of forwards and of ends as the events do
 

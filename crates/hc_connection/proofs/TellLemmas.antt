@@ -9,8 +9,10 @@ use Rattle.hc_order.specs.declared.occurrence.Reason.{Reason}
 use Rattle.hc_order.specs.declared.occurrence.Reason.TheVariants.{Peer, Replies, Reads}
 use Rattle.hc_order.specs.declared.receiver.Receiver.{Receiver}
 use Rattle.hc_order.specs.declared.receiver.Receiver.TheVariants.{Client}
-use Rattle.hc_connection.specs.Links.{HasFailed, IsBeginning}
-use Rattle.hc_connection.specs.Moves.{AreRead, HappensFor, IsOf, earlier_or, failures_before, first_in, given_by, given_in, is_end_of, is_ended_in, is_of_client, is_of_reads, is_spent_in, most_octets, most_reads, most_replies, occurs, octets_of, one_for, one_of_client, one_of_origin, replies_in, sent_by, sent_in}
+use Rattle.hc_link_traits.specs.Links.{CountsFailure, IsBeginning}
+use Rattle.hc_connection.specs.Moves.{AreRead, HappensFor, IsOf, earlier_or, failures_before, first_in, given_by, given_in, is_end_of, is_ended_in, is_of_client, is_of_reads, is_spent_in, most_reads, most_replies, octets_of, one_for, one_of_client, one_of_origin, replies_in, sent_by, sent_in}
+use Rattle.hc_link_traits.specs.Links.{most_octets}
+use Rattle.hc_link_traits.specs.Telling.{occurs}
 use Rattle.hc_order.specs.Log.{Move}
 use Rattle.hc_order.specs.Log.Move.{Heard, Sent}
 use Rattle.hc_service.specs.Numbers.{is_later}
@@ -63,8 +65,8 @@ as_before : (failed : Bool) (before now : ℕ) → failed ≡ false → now ≡ 
 as_before true before now none same = absurd (cc)
 as_before false before now none same = same
 
-has_failed : (failed : Bool) (before mid now : ℕ) → failed ≡ false → CountsFailed failed before mid → HasFailed mid now → HasFailed before now
-has_failed failed before mid now none counted fails = subst (λ (n : ℕ). HasFailed n now) (works failed before mid none counted) fails
+has_failed : (failed : Bool) (before mid now : ℕ) → failed ≡ false → CountsFailed failed before mid → CountsFailure mid now → CountsFailure before now
+has_failed failed before mid now none counted fails = subst (λ (n : ℕ). CountsFailure n now) (works failed before mid none counted) fails
 
 -- ---- beginnings
 
@@ -197,7 +199,7 @@ module _ {C : Type 0} (has_given has_got : C → List ℕ → Type 0) (was_read 
     -- the link failed at that
     pub failed_now : (link : C) → side.failed ≡ false → ((given : List ℕ) → has_given side.link given → has_given link given)
         → ((got : List ℕ) → has_got side.link got → (front : List ℕ) × IsBeginning front octets × has_got link (got ++ front))
-        → ((times : ℕ) → was_read side.link times → was_read link times) → HasFailed (count side.link) (count link)
+        → ((times : ℕ) → was_read side.link times → was_read link times) → CountsFailure (count side.link) (count link)
         → Tells has_given has_got was_read count (replied side link true replies) (Sent (Client side.number) octets ∷ log)
     failed_now link none gives gets reads fails =
         let part = gets t.got t.has_it in record {
@@ -279,7 +281,7 @@ module _ {C : Type 0} (has_given has_got : C → List ℕ → Type 0) (was_read 
 
     -- the link failed
     pub broken : ((given : List ℕ) → has_given side.link given → has_given link given)
-        → ((times : ℕ) → was_read side.link times → (more : ℕ) × (more ≤ 1) × was_read link (more + times)) → HasFailed (count side.link) (count link)
+        → ((times : ℕ) → was_read side.link times → (more : ℕ) × (more ≤ 1) × was_read link (more + times)) → CountsFailure (count side.link) (count link)
         → Tells has_given has_got was_read count (replied side link true side.replies) log
     broken gives reads fails = record {
       own = t.own;

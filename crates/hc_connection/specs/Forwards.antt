@@ -5,10 +5,12 @@ use Rattle.std.specs.BTreeMap.{BTreeMap, get}
 use Rattle.std.specs.Ordering.{nat_cmp}
 use Rattle.hc_events.specs.declared.Happening.{Happening}
 use Rattle.hc_events.specs.declared.Happening.TheVariants.{ClientOpened, ClientBytes, ClientEnd, OriginBytes, OriginEnd, OriginFailed}
-use Rattle.hc_connection.specs.declared.sides.Came.{Came}
-use Rattle.hc_connection.specs.declared.sides.Came.TheVariants.{Octets, End, Failure}
-use Rattle.hc_connection.specs.declared.happened.Happened.{Happened}
-use Rattle.hc_connection.specs.Moves.{first_in, most_octets, occurs}
+use Rattle.hc_link_traits.specs.declared.reading.Came.{Came}
+use Rattle.hc_link_traits.specs.declared.reading.Came.TheVariants.{Octets, End, Failure}
+use Rattle.hc_link_traits.specs.declared.happened.Happened.{Happened}
+use Rattle.hc_connection.specs.Moves.{first_in}
+use Rattle.hc_link_traits.specs.Links.{most_octets}
+use Rattle.hc_link_traits.specs.Telling.{occurs}
 use Rattle.hc_order.specs.declared.occurrence.Reason.TheVariants.{Peer}
 use Rattle.hc_order.specs.Log.{Move}
 use Rattle.hc_order.specs.Mirrors.{is_on}

@@ -1,10 +1,4 @@
-pub mod Batches
-pub mod Buffers
-pub mod Clients
 pub mod Connections
 pub mod Forwards
-pub mod Lapses
-pub mod Links
 pub mod Moves
 pub mod Sides
-pub mod Telling

@@ -2,7 +2,6 @@
 use Rattle.std.specs.Prelude.{◌≡◌, ℕ, ◌+◌, ◌<◌, ◌≤◌, ◌==◌, ◌||◌, Bool, true, false, List, [], ◌∷◌, ◌++◌, length, Option, Some, None, if◌then◌else◌}
 use Rattle.hc_events.specs.declared.Happening.{Happening}
 use Rattle.hc_events.specs.declared.Happening.TheVariants.{ClientOpened, ClientBytes, ClientEnd, OriginBytes, OriginEnd, OriginFailed}
-use Rattle.hc_order.specs.declared.occurrence.Occurrence.{Occurrence}
 use Rattle.hc_order.specs.declared.occurrence.Reason.{Reason}
 use Rattle.hc_order.specs.declared.occurrence.Reason.TheVariants.{Peer, Replies, Reads, Stop, Late, Reset, Held}
 use Rattle.hc_order.specs.declared.receiver.Receiver.{Receiver}
@@ -10,6 +9,7 @@ use Rattle.hc_order.specs.declared.receiver.Receiver.TheVariants.{Client, Origin
 use Rattle.hc_order.specs.Log.{Move}
 use Rattle.hc_order.specs.Log.Move.{Before, Closed, Heard, Sent}
 use Rattle.hc_order.specs.Mirrors.{is_its}
+use Rattle.hc_link_traits.specs.Links.{most_octets}
 
 -- ---- the client of a connection
 
@@ -168,10 +168,6 @@ ReadsInTime c (Closed link ∷ log) = ReadsInTime c log
 
 -- ---- reasons
 
--- what happens at that moment, and is told for that reason
-abbrev pub occurs : ℕ → Happening → Reason → Occurrence
-occurs moment of reason = record { event = record { moment = moment; of = of }; reason = reason }
-
 -- it is told because no link is read any more
 abbrev pub is_of_reads : Reason → Bool
 is_of_reads Peer = false
@@ -240,10 +236,6 @@ AreMoments may_tell (Sent to octets ∷ log) = AreMoments may_tell log
 AreMoments may_tell (Closed link ∷ log) = AreMoments may_tell log
 
 -- ---- bounds on octets
-
--- the most octets that a read brings
-abbrev pub most_octets : ℕ
-most_octets = 8192
 
 abbrev pub octets_of : Happening → List ℕ
 octets_of (ClientBytes c octets) = octets

@@ -1,21 +1,18 @@
 -- What the client's side of a connection tells of what passed.
-use Rattle.std.specs.Prelude.{◌≡◌, ℕ, ◌+◌, ◌≤◌, Bool, true, false, List, ◌∷◌, Option, Some, None, Result, Ok, Err, if◌then◌else◌, min}
-use Rattle.std.specs.declared.alloc.AllocError.{AllocError}
+use Rattle.std.specs.Prelude.{◌≡◌, ℕ, ◌+◌, ◌≤◌, Bool, true, false, List, Some, None, if◌then◌else◌, min}
 use Rattle.hc_events.specs.declared.Happening.TheVariants.{ClientOpened}
 use Rattle.hc_connection.specs.declared.client_side.ClientSide.{ClientSide}
-use Rattle.hc_connection.specs.declared.happened.Happened.{Happened}
 use Rattle.hc_service.specs.Numbers.{is_later}
 use Rattle.hc_order.specs.declared.occurrence.Reason.{Reason}
 use Rattle.hc_order.specs.Mirrors.{last_opened}
-use Rattle.hc_connection.specs.Links.{HasFailed, IsBeginning}
-use Rattle.hc_connection.specs.Moves.{AreOf, EndsFor, HaveReasons, ReadsFew, ReadsInTime, client_reads_in, failures_before, first_in, given_in, is_closed_in, is_ended_in, is_of_reads, is_spent_in, most_reads, occurs, origin_reads_in, reads_before, replies_in, sent_in}
+use Rattle.hc_link_traits.specs.Links.{CountsFailure, IsBeginning}
+use Rattle.hc_connection.specs.Moves.{AreOf, EndsFor, HaveReasons, ReadsFew, ReadsInTime, client_reads_in, failures_before, first_in, given_in, is_closed_in, is_ended_in, is_of_reads, is_spent_in, most_reads, origin_reads_in, reads_before, replies_in, sent_in}
 use Rattle.hc_order.specs.Log.{Move}
-use Rattle.hc_order.specs.Log.Move.{Heard}
 
 -- its link's failures: none where it works, else one more, as far as can be counted
 abbrev pub CountsFailed : Bool → ℕ → ℕ → Type 0
 CountsFailed false before after = after ≡ before
-CountsFailed true before after = HasFailed before after
+CountsFailed true before after = CountsFailure before after
 
 -- a link was read so often since, which is at least as often as octets of it came; with the reads of others, and so many that are still to come, that is no more than was counted
 pub record CountsReads {C : Type 0} (was_read : C → ℕ → Type 0) (link : C) (before came others spare counted : ℕ) : Type 0 where
@@ -57,19 +54,6 @@ Tells has_given has_got was_read count side log = TellsSparing has_given has_got
 abbrev pub Opens : Bool → ℕ → List Move → Type 0
 Opens true c log = first_in log ≡ Some (ClientOpened c)
 Opens false c log = (first_in log ≡ None) × (is_later c (last_opened log) ≡ true)
-
--- it happens, whatever the moment, behind the log
-abbrev pub TellsHappening : (List Move → Type 0) → Happened → List Move → Type 0
-TellsHappening tells happened log = (moment : ℕ) → tells (Heard (occurs moment happened.of happened.reason) ∷ log)
-
--- something happens, or nothing does
-abbrev pub TellsPerhaps : (List Move → Type 0) → Option Happened → List Move → Type 0
-TellsPerhaps tells (Some happened) log = TellsHappening tells happened log
-TellsPerhaps tells None log = tells log
-
-abbrev pub TellsIfOk : (List Move → Type 0) → Result (Option Happened) AllocError → List Move → Type 0
-TellsIfOk tells (Ok perhaps) log = TellsPerhaps tells perhaps log
-TellsIfOk tells (Err refused) log = tells log
 
 -- the client's end may be told for that reason; where that is that no link is read any more, no reads are left
 abbrev pub MayEndFor : {C : Type 0} → ClientSide C → Reason → List Move → Type 0

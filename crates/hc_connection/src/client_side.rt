@@ -2,11 +2,9 @@
 
 ghost use Rattle.std.specs.Prelude.{◌≡◌, ◌<◌, ◌≤◌, false, true, ℕ, List, [], ◌∷◌, Option, None, Ok, IfOk, IfSome};
 
-use crate::happened::Happened;
-use crate::link::{Link, LinkFailure};
-use crate::sides::{Came, read_some, send_text};
 use hc_events::Happening;
 use hc_framing::MessageText;
+use hc_link_traits::{Came, Happened, Link, LinkFailure, read_some, send_text};
 use hc_order::Reason;
 use std::alloc::{AllocError, Global};
 
@@ -41,7 +39,8 @@ impl<C: Link> ClientSide<C> {
     ghost use Rattle.hc_connection.specs.Moves.{most_reads, most_replies};
     ghost use Rattle.hc_order.specs.Log.{Move};
     ghost use Rattle.hc_order.specs.Log.Move.{Before, Closed, Sent};
-    ghost use Rattle.hc_connection.specs.Sides.{MayEndFor, Tells, TellsIfOk, TellsPerhaps, TellsSparing, is_heard_out};
+    ghost use Rattle.hc_connection.specs.Sides.{MayEndFor, Tells, TellsSparing, is_heard_out};
+    ghost use Rattle.hc_link_traits.specs.Telling.{TellsIfOk, TellsPerhaps};
 
     /// That of a client who has just connected.
     pub(crate) fn new(number: u64, link: C) -> Self

@@ -3,12 +3,10 @@
 ghost use Rattle.std.specs.Prelude.{◌≡◌, ℕ, List, [], ◌∷◌, Option, length, false};
 
 use crate::client_side::ClientSide;
-use crate::happened::Happened;
-use crate::link::{Clock, Link, Origins};
-use crate::links::{Awaiting, Links};
 use crate::peers::Peers;
 use hc_events::{Event, Happening};
 use hc_framing::MessageText;
+use hc_link_traits::{Awaiting, Clock, Happened, Link, Links, Origins};
 use hc_order::{Occurrence, Reason, Receiver};
 use std::alloc::{AllocError, Global};
 

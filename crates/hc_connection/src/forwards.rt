@@ -3,9 +3,8 @@
 ghost use Rattle.std.specs.Prelude.{◌≡◌, ℕ, List, [], ◌∷◌, length, Bool, false, true, IfOk, None, Some};
 ghost use Rattle.hc_connection.specs.Forwards.{HasFew, IsKept, KeepsSlot};
 
-use crate::link::{Link, LinkFailure, Origins};
-use crate::sides::{Came, read_some, send_text};
 use hc_framing::MessageText;
+use hc_link_traits::{Came, Link, LinkFailure, Origins, read_some, send_text};
 use std::alloc::{AllocError, Global};
 use std::collections::BTreeMap;
 
@@ -22,8 +21,8 @@ impl<'a, O: Origins> Forwards<'a, O> {
     ghost use Rattle.hc_connection.specs.Forwards.{AreKept, KeepsCame, NoneOpen, TellsLeast, is_open_in};
     ghost use Rattle.hc_order.specs.Log.{Move};
     ghost use Rattle.hc_order.specs.Log.Move.{Closed, Heard};
-    ghost use Rattle.hc_connection.specs.Moves.{occurs};
-    ghost use Rattle.hc_connection.specs.Telling.{TellsSent};
+    ghost use Rattle.hc_link_traits.specs.Telling.{occurs};
+    ghost use Rattle.hc_link_traits.specs.Telling.{TellsSent};
     ghost use Rattle.hc_order.specs.declared.occurrence.Reason.{Reason};
     ghost use Rattle.hc_order.specs.declared.receiver.Receiver.TheVariants.{Origin};
     ghost use Rattle.hc_events.specs.declared.Happening.TheVariants.{OriginEnd, OriginFailed};

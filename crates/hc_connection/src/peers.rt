@@ -1,14 +1,12 @@
 //! The client of a connection, and the forwards that are open for it.
 
-ghost use Rattle.std.specs.Prelude.{◌≡◌, ◌<◌, false, true, ℕ, List, [], ◌∷◌, length, IfOk, IsSome, None, Ok};
+ghost use Rattle.std.specs.Prelude.{◌≡◌, ◌<◌, true, List, ◌∷◌, length, IfOk, IsSome, None, Ok};
 
 use crate::client_side::ClientSide;
 use crate::forwards::Forwards;
-use crate::happened::Happened;
-use crate::link::{Link, Origins};
-use crate::sides::Came;
 use hc_events::Happening;
 use hc_framing::MessageText;
+use hc_link_traits::{Came, Happened, Link, Origins};
 use hc_order::{Reason, Receiver};
 use std::alloc::{AllocError, Global};
 use std::collections::VecDeque;
@@ -37,8 +35,9 @@ impl<'a, C: Link, O: Origins> Peers<'a, C, O> {
     ghost use Rattle.hc_connection.specs.Moves.{most_reads};
     ghost use Rattle.hc_order.specs.Log.{Move};
     ghost use Rattle.hc_order.specs.Log.Move.{Closed};
-    ghost use Rattle.hc_connection.specs.Sides.{Tells, TellsIfOk, TellsPerhaps, TellsSparing, is_heard_out};
-    ghost use Rattle.hc_connection.specs.Telling.{TellsSent};
+    ghost use Rattle.hc_connection.specs.Sides.{Tells, TellsSparing, is_heard_out};
+    ghost use Rattle.hc_link_traits.specs.Telling.{TellsIfOk, TellsPerhaps};
+    ghost use Rattle.hc_link_traits.specs.Telling.{TellsSent};
     ghost use Rattle.hc_order.specs.declared.receiver.Receiver.TheVariants.{Client, Origin};
 
     /// A client who has just connected. No forward is open.

@@ -1,14 +1,15 @@
 -- What a request gets at once, and what a store answers, is one thing.
 use Rattle.std.proofs.Common.{◌≡◌, ℕ, true, false, cond, List, Option, Some, None, refl, sym, ap, ◌∙◌, subst, arith}
 use Rattle.std.specs.FinMap.{get}
+use Rattle.std.proofs.lemmas.Bool.{and_parts}
 use Rattle.hc_head.specs.declared.head.Target.{Target}
 use Rattle.hc_update.specs.declared.stored.Stored.{Stored}
 use Rattle.hc_links.specs.Requests.{HasRequest, IsUnfinished}
 use Rattle.hc_links.proofs.RequestLaws.{request_not_unfinished}
 use Rattle.hc_store.specs.declared.putting.Put.{Put}
 use Rattle.hc_store.specs.declared.putting.Put.TheVariants as put
-use Rattle.hc_store.specs.Calls.{Puts, grows, is_small_enough}
-use Rattle.hc_store.specs.Entries.{Holdings, knows}
+use Rattle.hc_store.specs.Calls.{Puts, grows, is_small_enough, may_put}
+use Rattle.hc_store.specs.Entries.{Holdings, knows, may_hold}
 use Rattle.hc_service.specs.declared.cases.Cause.{Cause}
 use Rattle.hc_service.specs.Agreement.{Agrees, History}
 use Rattle.hc_service.specs.Cases.{case_before_store, case_by_store}
@@ -65,16 +66,29 @@ module _ (whole : WholeRequest) (underway : OpenNow) (old new changed : Holdings
 false_true : false ≡ true → ⊥
 false_true e = cc
 
-pub put_without_growth : (target : Target) (stored : Stored) (old new : Holdings) (answer : Put) → is_small_enough stored old ≡ true
+pub put_without_growth : (target : Target) (stored : Stored) (old new : Holdings) (answer : Put) → may_put stored old ≡ true
     → grows target old.entries ≡ false → Puts target stored old answer new → answer ≡ put.Stored
 put_without_growth target stored old new put.Stored small light puts = refl
-put_without_growth target stored old new put.TooLarge small light puts = absurd (false_true (sym puts.0 ∙ small))
+put_without_growth target stored old new put.SetsCookie small light puts =
+    absurd (false_true (sym puts.0 ∙ (and_parts (may_hold old.keeps_cookies stored) (is_small_enough stored old) small).0))
+put_without_growth target stored old new put.TooLarge small light puts =
+    absurd (false_true (sym puts.1 ∙ (and_parts (may_hold old.keeps_cookies stored) (is_small_enough stored old) small).1))
 put_without_growth target stored old new put.NoMemory small light puts = absurd (false_true (sym light ∙ puts.1))
+
+pub no_cookie_put : (target : Target) (stored : Stored) (old new : Holdings) (answer : Put) → may_hold old.keeps_cookies stored ≡ false
+    → Puts target stored old answer new → answer ≡ put.SetsCookie
+no_cookie_put target stored old new put.Stored none puts =
+    absurd (false_true (sym none ∙ (and_parts (may_hold old.keeps_cookies stored) (is_small_enough stored old) puts.0).0))
+no_cookie_put target stored old new put.SetsCookie none puts = refl
+no_cookie_put target stored old new put.TooLarge none puts = absurd (false_true (sym none ∙ puts.0))
+no_cookie_put target stored old new put.NoMemory none puts =
+    absurd (false_true (sym none ∙ (and_parts (may_hold old.keeps_cookies stored) (is_small_enough stored old) puts.0).0))
 
 pub put_once : (target : Target) (stored : Stored) (old new changed : Holdings) (answer : Put) → Puts target stored old answer new
     → Puts target stored old answer changed → new ≡ changed
 put_once target stored old new changed put.Stored a b = joined new changed _ a.1 b.1
-put_once target stored old new changed put.TooLarge a b = joined new changed _ a.1 b.1
+put_once target stored old new changed put.SetsCookie a b = joined new changed _ a.1 b.1
+put_once target stored old new changed put.TooLarge a b = joined new changed _ a.2 b.2
 put_once target stored old new changed put.NoMemory a b = joined new changed _ a.2 b.2
 
 -- ---- what is unread

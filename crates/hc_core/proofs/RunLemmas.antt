@@ -10,7 +10,7 @@ use Rattle.hc_service.specs.declared.settings.CoreSettings.{CoreSettings}
 use Rattle.hc_service.specs.Agreement.{Agrees, History, IsReady}
 use Rattle.hc_service.specs.Runs.{IsJudgedRight, Runs, StepResult, Steps, nothing_yet, records_given, strict, transcript_of}
 use Rattle.hc_service.specs.Settings.{AreGood}
-use Rattle.hc_service.specs.State.{State, new_state, usual_room}
+use Rattle.hc_service.specs.State.{State, new_state, usual_options}
 use Rattle.hc_service.proofs.BeginLemmas.{new_agrees}
 use Rattle.hc_service.proofs.RunLemmas.{runs_judged, steps_append}
 use Rattle.hc_machine.specs.Steps.{Cache, GivesStep, StandsFor}
@@ -56,8 +56,8 @@ pub leads_to_runs : (settings : CoreSettings)
     → s.numbers.records + length (records_given results) ≤ greatest_number → Runs settings s h events results (records_given results) end)
     → LeadToRuns settings
 leads_to_runs settings law events results end steps few =
-    let run = law events results (new_state settings) nothing_yet end (new_agrees settings usual_room) steps (omega arith) in
-    (run, runs_judged settings usual_room events results (records_given results) end run)
+    let run = law events results (new_state settings) nothing_yet end (new_agrees settings usual_options) steps (omega arith) in
+    (run, runs_judged settings usual_options events results (records_given results) end run)
 
 -- ---- one step more
 

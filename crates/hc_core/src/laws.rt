@@ -7,8 +7,8 @@ ghost use Rattle.hc_update.specs.declared.stored.Stored.{Stored};
 ghost use Rattle.hc_links.specs.Requests.{HasRequest};
 ghost use Rattle.hc_store.specs.declared.putting.Put.{Put};
 ghost use Rattle.hc_store.specs.declared.putting.Put.TheVariants as answers;
-ghost use Rattle.hc_store.specs.Calls.{Puts, grows, is_small_enough};
-ghost use Rattle.hc_store.specs.Entries.{Holdings};
+ghost use Rattle.hc_store.specs.Calls.{Puts, grows, may_put};
+ghost use Rattle.hc_store.specs.Entries.{Holdings, may_hold};
 ghost use Rattle.hc_service.specs.Agreement.{Agrees, History};
 ghost use Rattle.hc_service.specs.Reactions.{Reaction, Reacts, WholeRequest};
 ghost use Rattle.hc_service.specs.State.{Connection, OpenNow, State};
@@ -21,11 +21,14 @@ pub fn one_reaction()
         → Reacts whole underway old one new → Reacts whole underway old other changed → (one ≡ other) × (new ≡ changed) }
 {}
 
-/// What is small enough is put where that takes no memory; and each answer leaves one store.
+/// What may be put is put where that takes no memory, and what sets a cookie isn't where the store keeps no such
+/// responses; and each answer leaves one store.
 pub fn what_takes_no_memory_is_put()
     ensures put { (target : Target) (stored : Stored) (old new : Holdings) (answer : Put)
-        → is_small_enough stored old ≡ true → grows target old.entries ≡ false
+        → may_put stored old ≡ true → grows target old.entries ≡ false
         → Puts target stored old answer new → answer ≡ answers.Stored }
+    ensures cookie { (target : Target) (stored : Stored) (old new : Holdings) (answer : Put)
+        → may_hold old.keeps_cookies stored ≡ false → Puts target stored old answer new → answer ≡ answers.SetsCookie }
     ensures one { (target : Target) (stored : Stored) (old new changed : Holdings) (answer : Put)
         → Puts target stored old answer new → Puts target stored old answer changed → new ≡ changed }
 {}

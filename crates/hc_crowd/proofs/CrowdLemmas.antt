@@ -7,8 +7,8 @@ use Rattle.hc_order.specs.declared.occurrence.Reason.{Reason}
 use Rattle.hc_order.specs.Log.{Move}
 use Rattle.hc_order.specs.Log.Move.{Before, Closed, Heard, Sent}
 use Rattle.hc_order.specs.declared.receiver.Receiver.{Receiver}
-use Rattle.hc_connection.specs.Moves.{occurs}
-use Rattle.hc_connection.specs.Telling.{TellsSent}
+use Rattle.hc_link_traits.specs.Telling.{occurs}
+use Rattle.hc_link_traits.specs.Telling.{TellsSent}
 use Rattle.hc_crowd.specs.Crowds.{AreUpTo}
 
 -- moments up to one are up to a later one

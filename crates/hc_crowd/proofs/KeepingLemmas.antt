@@ -1,14 +1,17 @@
 -- What the calls of a crowd's traffic keep goes on from one to the next.
-use Rattle.std.proofs.Common.{◌≡◌, ℕ, Bool, true, false, List, Option, Some, None, Result, Ok, Err, refl, sym, true≢false}
+use Rattle.std.proofs.Common.{◌≡◌, ℕ, Bool, true, false, List, Option, None, Result, Ok, Err, refl, sym, true≢false}
 use Rattle.std.specs.declared.alloc.AllocError.{AllocError}
-use Rattle.hc_connection.specs.declared.happened.Happened.{Happened}
+use Rattle.hc_link_traits.specs.declared.happened.Happened.{Happened}
 use Rattle.hc_peers.specs.declared.peers.Peers.{Peers}
 use Rattle.hc_order.specs.declared.occurrence.Reason.{Reason}
 use Rattle.hc_order.specs.declared.occurrence.Reason.TheVariants.{Peer, Replies, Reads, Stop, Late, Reset, Held}
-use Rattle.hc_peers.specs.Heard.{HeardAtOnce, HeardFor, IsAnswerOf, IsReasonFor, NoAnswer}
+use Rattle.hc_flow.specs.declared.heard.Heard.{Heard}
+use Rattle.hc_flow.specs.declared.heard.Heard.TheVariants.{Octets, End, Lost, Nothing}
+use Rattle.hc_peers.specs.Heard.{IsAnswerOf, NoAnswer}
+use Rattle.hc_peers.specs.Hearings.{IsHeardFor, IsToldAtOnce}
 use Rattle.hc_peers.specs.Peers.Bounds.{AtMost}
 use Rattle.hc_peers.proofs.PeerLemmas.{heard_by, told_on}
-use Rattle.hc_crowd.specs.Keeping.{Hears, HearsWithin, KeepsPeers, KeepsWithin}
+use Rattle.hc_peers.specs.Keeping.{Hears, HearsWithin, KeepsPeers, KeepsWithin}
 
 module _ {S : Type 0} {has_given has_got : S → List ℕ → Type 0} where
   -- where nothing changes
@@ -136,27 +139,28 @@ module _ {S : Type 0} {has_given has_got : S → List ℕ → Type 0} where
 
 -- ---- reasons
 
--- a stop, and that a time is over, may be more than the reason that was told
-reason_for : (stops more_stops late more_late cut : Bool) (F G : Type 0) (reason : Reason) → (stops ≡ true → more_stops ≡ true) → (late ≡ true → more_late ≡ true) → (F → G)
-    → IsReasonFor stops late cut F reason → IsReasonFor more_stops more_late cut G reason
-reason_for stops more_stops late more_late cut F G Peer by_stop by_time fails is = tt
-reason_for stops more_stops late more_late cut F G Replies by_stop by_time fails is = tt
-reason_for stops more_stops late more_late cut F G Reads by_stop by_time fails is = tt
-reason_for stops more_stops late more_late cut F G Stop by_stop by_time fails is = by_stop is
-reason_for stops more_stops late more_late cut F G Late by_stop by_time fails is = by_time is
-reason_for stops more_stops late more_late cut F G Reset by_stop by_time fails is = fails is
-reason_for stops more_stops late more_late cut F G Held by_stop by_time fails is = is
+-- that a time is over may be more than the reason that was told
+ended_for : (stops late more_late cut : Bool) (F G : Type 0) (reason : Reason) → (late ≡ true → more_late ≡ true) → (F → G) → IsHeardFor stops late cut F (Ok (End reason))
+    → IsHeardFor stops more_late cut G (Ok (End reason))
+ended_for stops late more_late cut F G Peer by_time fails is = is
+ended_for stops late more_late cut F G Replies by_time fails is = is
+ended_for stops late more_late cut F G Reads by_time fails is = is
+ended_for stops late more_late cut F G Stop by_time fails is = is
+ended_for stops late more_late cut F G Late by_time fails is = by_time is
+ended_for stops late more_late cut F G Reset by_time fails is = fails is
+ended_for stops late more_late cut F G Held by_time fails is = is
 
-pub heard_for : (number : ℕ) (stops more_stops late more_late cut : Bool) (F G : Type 0) (result : Result (Option Happened) AllocError) → (stops ≡ true → more_stops ≡ true) → (late ≡ true → more_late ≡ true)
-    → (F → G) → HeardFor number stops late cut F result → HeardFor number more_stops more_late cut G result
-heard_for number stops more_stops late more_late cut F G (Ok (Some happened)) by_stop by_time fails is = (is.0, reason_for stops more_stops late more_late cut F G happened.reason by_stop by_time fails is.1)
-heard_for number stops more_stops late more_late cut F G (Ok None) by_stop by_time fails is = tt
-heard_for number stops more_stops late more_late cut F G (Err refused) by_stop by_time fails is = tt
+pub heard_for : (stops late more_late cut : Bool) (F G : Type 0) (result : Result Heard AllocError) → (late ≡ true → more_late ≡ true) → (F → G) → IsHeardFor stops late cut F result
+    → IsHeardFor stops more_late cut G result
+heard_for stops late more_late cut F G (Ok (Octets octets)) by_time fails is = is
+heard_for stops late more_late cut F G (Ok (End reason)) by_time fails is = ended_for stops late more_late cut F G reason by_time fails is
+heard_for stops late more_late cut F G (Ok (Lost reason)) by_time fails is = is
+heard_for stops late more_late cut F G (Ok Nothing) by_time fails is = tt
+heard_for stops late more_late cut F G (Err refused) by_time fails is = tt
 
 -- what is told at once where a time is over is told where that is sure
-pub heard_at_once : (number : ℕ) (cut late surely_late : Bool) (result : Result (Option Happened) AllocError) → (surely_late ≡ true → late ≡ true)
-    → HeardAtOnce number cut late result → HeardAtOnce number cut surely_late result
-heard_at_once number true late surely_late result surely is = is
-heard_at_once number false true true result surely is = is
-heard_at_once number false false true result surely is = absurd (true≢false (sym (surely refl)))
-heard_at_once number false late false result surely is = tt
+pub told_at_once : (cut late surely_late : Bool) (result : Result Heard AllocError) → (surely_late ≡ true → late ≡ true) → IsToldAtOnce cut late result → IsToldAtOnce cut surely_late result
+told_at_once true late surely_late result surely is = is
+told_at_once false true true result surely is = is
+told_at_once false false true result surely is = absurd (true≢false (sym (surely refl)))
+told_at_once false late false result surely is = tt

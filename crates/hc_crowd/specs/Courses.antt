@@ -2,14 +2,16 @@
 use Rattle.std.specs.Prelude.{◌≡◌, ◌⊎◌, ◌≤◌, ℕ, ◌&&◌, ◌||◌, not, Bool, true, false, Option, Some, None, is_some, nat_lt, option_and_then}
 use Rattle.std.specs.BTreeMap.{get}
 use Rattle.std.specs.Ordering.{nat_cmp}
-use Rattle.hc_pace.specs.Paces.{forward_due}
-use Rattle.hc_pace.specs.declared.pace.Pace.{Pace}
-use Rattle.hc_pace.specs.declared.pace.Pace.TheVariants.{Idle, Asking, Taking}
-use Rattle.hc_pace.specs.declared.patience.Patience.{Patience}
+use Rattle.hc_flow.specs.Paces.{forward_due}
+use Rattle.hc_flow.specs.declared.pace.Pace.{Pace}
+use Rattle.hc_flow.specs.declared.pace.Pace.TheVariants.{Idle, Asking, Taking}
+use Rattle.hc_flow.specs.declared.patience.Patience.{Patience}
+use Rattle.hc_flow.specs.declared.progress.Progress.{Progress}
 use Rattle.hc_peers.specs.declared.peers.Peers.{Peers}
-use Rattle.hc_guests.specs.Tables.{is_there_and}
+use Rattle.hc_peers.specs.Tables.{is_there_and}
+use Rattle.hc_peers.specs.Hearings.{HasFailedAt}
 use Rattle.hc_peers.specs.Known.{known_at}
-use Rattle.hc_forwards.specs.Links.{is_linked_and, is_waiting, progress_at}
+use Rattle.hc_peers.specs.Forwards.{is_linked_and, is_waiting, progress_at}
 use Rattle.hc_peers.specs.Peers.{is_client_overdue}
 use Rattle.hc_crowd.specs.declared.course.Course.{Course}
 use Rattle.hc_crowd.specs.declared.course.Course.TheVariants.{Serving, Stopping, Late}
@@ -34,7 +36,19 @@ is_idle_pace (Taking since) = false
 
 -- whether a client is there, and is idle
 abbrev pub is_idle : {S : Type 0} → Peers S → ℕ → Bool
-is_idle peers number = is_there_and (known_at number peers.clients.table) (λ client. is_idle_pace client.pace)
+is_idle peers number = is_there_and (known_at number peers.clients.links) (λ client. is_idle_pace client.pace)
+
+-- whether a client is there who wasn't read yet
+abbrev pub is_fresh : {S : Type 0} → Peers S → ℕ → Bool
+is_fresh peers number = is_there_and (known_at number peers.clients.links) (λ client. client.fresh)
+
+-- whether a stop ends a client of whom nothing is awaited: not one that wasn't read yet
+abbrev pub is_stop_for : {S : Type 0} → Course → Peers S → (number : ℕ) → Bool
+is_stop_for course peers number = stops course && not (is_fresh peers number)
+
+-- the link of a client has failed by then
+abbrev pub FailsAt : {S : Type 0} → (S → Type 0) → ℕ → (before after : Peers S) → Type 0
+FailsAt has_failed number before after = HasFailedAt has_failed (known_at number before.clients.links) (known_at number after.clients.links)
 
 -- whether the time of a client is over by that tick: behind a stop, or, where no request of it awaits its reply, by how it is getting on
 abbrev pub is_over_for : {S : Type 0} → Course → Peers S → (number : ℕ) → (awaited : Bool) → (tick : ℕ) → Patience → Bool
@@ -57,13 +71,17 @@ ServesNoMore most course last = (stops course ≡ true) ⊎ HaveAllCome most las
 
 -- whether a forward is there whose request waits for a link
 abbrev pub is_waiting_at : {S : Type 0} → (f : ℕ) → Peers S → Bool
-is_waiting_at f peers = is_there_and (get nat_cmp peers.forwards.table f) (λ forward. is_waiting forward.reaching)
+is_waiting_at f peers = is_there_and (get nat_cmp peers.forwards.links f) (λ forward. is_waiting forward.reaching)
 
 -- whether a forward is there whose link isn't known to work yet
 abbrev pub is_opening_at : {S : Type 0} → (f : ℕ) → Peers S → Bool
-is_opening_at f peers = is_there_and (get nat_cmp peers.forwards.table f) (λ forward. is_linked_and forward.reaching (λ link. is_some link.spare))
+is_opening_at f peers = is_there_and (get nat_cmp peers.forwards.links f) (λ forward. is_linked_and forward.reaching (λ link. is_some link.spare))
+
+-- how a forward is getting on at its link, if it has one
+abbrev pub progress_of : {S : Type 0} → (f : ℕ) → Peers S → Option Progress
+progress_of f peers = option_and_then (λ forward. progress_at forward.reaching) (get nat_cmp peers.forwards.links f)
 
 -- whether a forward has a link, and its time is over by that tick
 abbrev pub is_forward_overdue : {S : Type 0} → (f : ℕ) → Peers S → (tick : ℕ) → Patience → Bool
 is_forward_overdue f peers tick patience =
-    is_there_and (option_and_then (λ forward. progress_at forward.reaching) (get nat_cmp peers.forwards.table f)) (λ progress. nat_lt (forward_due progress patience) tick)
+    is_there_and (progress_of f peers) (λ progress. nat_lt (forward_due progress patience) tick)

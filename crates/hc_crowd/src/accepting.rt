@@ -10,7 +10,7 @@ use std::alloc::AllocError;
 
 impl<W: World> Traffic<W> {
     ghost use Rattle.hc_crowd.specs.Courses.{ServesNoMore};
-    ghost use Rattle.hc_crowd.specs.Keeping.{KeepsPeers, KeepsWithin};
+    ghost use Rattle.hc_peers.specs.Keeping.{KeepsPeers, KeepsWithin};
     ghost use Rattle.hc_peers.specs.Peers.{HasRoom, last_given};
 
     /// Whether further clients may be served: not all of those have been opened that are served, and no stop was asked, or
@@ -49,7 +49,7 @@ impl<W: World> Traffic<W> {
     pub(crate) fn has_arrivals(&self, limits: Limits) -> bool {
         self.listening.is_ready()
             && self.accepts_more(limits)
-            && (self.may_make_room(limits.connections) || self.peers.turned_away.has_room())
+            && (self.may_make_room(limits.connections) || self.peers.may_turn_away())
     }
 
     /// Whether there is room for a further guest, or a client lingers that can give way.

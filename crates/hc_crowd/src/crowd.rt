@@ -1,15 +1,14 @@
 //! Many clients at once, and the origin, in one thread.
 
-ghost use Rattle.std.specs.Prelude.{◌≡◌, ℕ, List, [], ◌∷◌, IfOk};
+ghost use Rattle.std.specs.Prelude.{◌≡◌, [], IfOk};
 
 use crate::limits::Limits;
 use crate::traffic::Traffic;
 use crate::world::World;
-use hc_agenda::Moments;
-use hc_connection::{Awaiting, Batches, Happened, Links};
-use hc_counts::Failures;
+use hc_agenda::{Failures, Moments};
 use hc_events::{Event, Happening};
 use hc_framing::MessageText;
+use hc_link_traits::{Awaiting, Batches, Happened, Links};
 use hc_order::{Occurrence, Receiver};
 use std::alloc::{AllocError, Global};
 
@@ -59,8 +58,6 @@ impl<W: World + Drop> Crowd<W> {
 }
 
 impl<W: World> Crowd<W> {
-    ghost use Rattle.std.specs.Prelude.{◌≤◌};
-    ghost use Rattle.hc_order.specs.Log.{Move};
     ghost use Rattle.hc_crowd.specs.Crowds.{CrowdTells, MayTell};
     ghost use Rattle.hc_agenda.specs.Moments.{History, is_behind_in};
     ghost use Rattle.hc_agenda.specs.MomentsKept.{Tells, told_by};
@@ -109,7 +106,7 @@ impl<W: World> Crowd<W> {
 }
 
 impl<W: World> Links for Crowd<W> {
-    ghost use Rattle.hc_connection.specs.Telling.{IsInTurn};
+    ghost use Rattle.hc_link_traits.specs.Telling.{IsInTurn};
     ghost use Rattle.hc_crowd.specs.Crowds.{CrowdTells, MayTell, bounds_of};
     ghost use Rattle.hc_crowd.specs.declared.limits.Limits.{Limits};
     ghost use Rattle.hc_peers.specs.Peers.{HasFewLinks};

@@ -17,8 +17,8 @@ const CLIENT_LINGERS: u64 = 2_000;
 const ORIGIN_LINGERS: u64 = 1_000;
 
 impl<W: World> Traffic<W> {
-    ghost use Rattle.hc_connection.specs.Telling.{TellsSent};
-    ghost use Rattle.hc_crowd.specs.Keeping.{KeepsPeers};
+    ghost use Rattle.hc_link_traits.specs.Telling.{TellsSent};
+    ghost use Rattle.hc_peers.specs.Keeping.{KeepsPeers};
     ghost use Rattle.hc_order.specs.Log.{Move};
     ghost use Rattle.hc_order.specs.Log.Move.{Closed};
     ghost use Rattle.hc_order.specs.declared.receiver.Receiver.TheVariants.{Origin};
@@ -146,7 +146,7 @@ impl<W: World> Traffic<W> {
     fn time_client(&mut self, number: u64)
         ensures kept { KeepsPeers W.Stream.has_given W.Stream.has_got self.old.peers self.new.peers }
     {
-        if self.peers.clients.is_closed(number) {
+        if self.is_closed(number) {
             let due = self.due_behind(CLIENT_LINGERS);
             self.agenda.note(Timeout::ClientLingering, due, number);
         }

@@ -4,14 +4,15 @@ ghost use Rattle.std.specs.Prelude.{◌+◌, ◌-◌, ◌^◌, ◌≡◌, ◌≤
 
 use crate::traffic::Traffic;
 use crate::world::World;
-use hc_connection::Awaiting;
-use hc_counts::{Failure, Holding, Load, Ranking, Reckoning};
+use hc_agenda::{Failure, Holding, Load, Ranking, Reckoning};
+use hc_link_traits::Awaiting;
 use hc_order::Receiver;
 use std::alloc::AllocError;
 
 impl<W: World> Traffic<W> {
-    ghost use Rattle.hc_counts.specs.Loads.{cuts_to, looks_above, most_held};
-    ghost use Rattle.hc_crowd.specs.Keeping.{KeepsPeers};
+    ghost use Rattle.hc_agenda.specs.Loads.{cuts_to, looks_above, most_held};
+    ghost use Rattle.hc_peers.specs.Keeping.{KeepsPeers};
+    ghost use Rattle.hc_peers.specs.Known.{is_cut_at};
 
     /// Where so much may be held that it comes near the limit, each link is looked at, and those that hold most are cut off,
     /// if that has to be.
@@ -44,13 +45,23 @@ impl<W: World> Traffic<W> {
             let Some(number) = self.peers.clients.first_from(least) else {
                 return Ok(());
             };
-            if !self.peers.clients.is_cut(number) {
+            if !self.is_cut(number) {
                 let link = Receiver::Client(number);
-                reckoning.add(load(link, self.peers.clients.weight(number), cache.held(link)))?;
+                reckoning.add(load(link, self.peers.weight(link), cache.held(link)))?;
             }
             least = number.saturating_add(1);
         }
         Ok(())
+    }
+
+    /// Whether a client is there that was cut off.
+    fn is_cut(&self, number: u64) -> bool
+        ensures { result ≡ is_cut_at number self.now.peers.clients.links }
+    {
+        match self.peers.clients.get(number) {
+            Some(client) => client.is_cut(),
+            None => false,
+        }
     }
 
     /// What is held for each forward that wasn't lost yet.
@@ -64,9 +75,9 @@ impl<W: World> Traffic<W> {
             let Some(forward) = self.peers.forwards.first_from(least) else {
                 return Ok(());
             };
-            if self.peers.forwards.is_waiting(forward) || self.peers.forwards.has_link(forward) {
+            if self.is_waiting(forward) || self.peers.is_linked(forward) {
                 let link = Receiver::Origin(forward);
-                reckoning.add(load(link, self.peers.forwards.weight(forward), cache.held(link)))?;
+                reckoning.add(load(link, self.peers.weight(link), cache.held(link)))?;
             }
             least = forward.saturating_add(1);
         }

@@ -17,7 +17,7 @@ mod welcoming;
 mod world;
 
 pub use crowd::Crowd;
-pub use hc_counts::Failures;
-pub use hc_pace::Patience;
+pub use hc_agenda::Failures;
+pub use hc_flow::Patience;
 pub use limits::Limits;
 pub use world::{Accepted, Ready, World};

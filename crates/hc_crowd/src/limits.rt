@@ -1,6 +1,6 @@
 //! What bounds a crowd.
 
-use hc_pace::Patience;
+use hc_flow::Patience;
 
 /// What bounds a crowd.
 #[derive(Clone, Copy)]

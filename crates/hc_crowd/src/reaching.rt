@@ -3,14 +3,13 @@
 use crate::limits::Limits;
 use crate::traffic::Traffic;
 use crate::world::World;
-use hc_agenda::{Candidate, Timeout};
-use hc_connection::Awaiting;
-use hc_counts::Failure;
+use hc_agenda::{Candidate, Failure, Timeout};
+use hc_link_traits::Awaiting;
 use hc_order::{Reason, Receiver};
 
 impl<W: World> Traffic<W> {
     ghost use Rattle.hc_agenda.specs.Places.{HasPlaceLeft};
-    ghost use Rattle.hc_crowd.specs.Keeping.{KeepsPeers};
+    ghost use Rattle.hc_peers.specs.Keeping.{KeepsPeers};
 
     /// Forwards that were opened wait for places: behind all others those that nobody awaits.
     pub(crate) fn sort_opened<A: Awaiting>(&mut self, cache: &A, limits: Limits)
@@ -56,7 +55,7 @@ impl<W: World> Traffic<W> {
         ensures kept { KeepsPeers W.Stream.has_given W.Stream.has_got self.old.peers self.new.peers }
     {
         let forward = candidate.forward;
-        if !self.peers.forwards.is_there(forward) {
+        if !self.peers.forwards.has(forward) {
             return;
         }
         if self.peers.give_place(candidate).is_err() {
@@ -70,7 +69,7 @@ impl<W: World> Traffic<W> {
     pub(crate) fn connect(&mut self, forward: u64, limits: Limits)
         ensures kept { KeepsPeers W.Stream.has_given W.Stream.has_got self.old.peers self.new.peers }
     {
-        let attempt = self.peers.forwards.attempts(forward);
+        let attempt = self.attempts(forward);
         let Some(stream) = self.world.connect(forward, attempt) else {
             self.give_up(forward, Failure::Unreached);
             return;
@@ -79,6 +78,14 @@ impl<W: World> Traffic<W> {
             self.watch_link(forward, limits);
         } else {
             self.give_up(forward, Failure::Unreached);
+        }
+    }
+
+    /// How many links were begun for a forward; none for one that isn't there.
+    fn attempts(&self, forward: u64) -> u32 {
+        match self.peers.forwards.get(forward) {
+            Some(kept) => kept.attempts(),
+            None => 0,
         }
     }
 

@@ -5,8 +5,7 @@ ghost use Rattle.std.specs.Prelude.{◌≡◌, IfOk, [], true, ℕ};
 use crate::course::Course;
 use crate::limits::Limits;
 use crate::world::World;
-use hc_agenda::Agenda;
-use hc_counts::{Failures, Holding, Listening};
+use hc_agenda::{Agenda, Failures, Holding, Listening};
 use hc_order::Receiver;
 use hc_peers::Peers;
 use std::alloc::{AllocError, Global};
@@ -78,7 +77,7 @@ impl<W: World + Drop> Traffic<W> {
 
 impl<W: World> Traffic<W> {
     ghost use Rattle.hc_crowd.specs.Courses.{ServesNoMore};
-    ghost use Rattle.hc_crowd.specs.Keeping.{KeepsPeers};
+    ghost use Rattle.hc_peers.specs.Keeping.{KeepsPeers};
     ghost use Rattle.hc_peers.specs.Known.{KeepsKnown};
     ghost use Rattle.hc_peers.specs.Peers.{NoLinkIsLeft, last_given};
 
@@ -92,7 +91,7 @@ impl<W: World> Traffic<W> {
     /// A link is to be heard, if it is there and isn't to be heard already.
     pub(crate) fn give_turn(&mut self, link: Receiver)
         ensures kept { KeepsPeers W.Stream.has_given W.Stream.has_got self.old.peers self.new.peers }
-        ensures known { KeepsKnown self.old.peers.clients.table self.new.peers.clients.table }
+        ensures known { KeepsKnown self.old.peers.clients.links self.new.peers.clients.links }
     {
         if self.peers.queue(link) {
             self.agenda.give_turn(link);

@@ -5,18 +5,20 @@ ghost use Rattle.std.specs.Prelude.{◌≡◌, true};
 use crate::limits::Limits;
 use crate::traffic::Traffic;
 use crate::world::World;
-use hc_connection::{Awaiting, Happened};
-use hc_events::Happening;
-use hc_guests::Remainder;
+use hc_flow::{Heard, Pace, Patience};
+use hc_link_traits::{Awaiting, Happened};
 use hc_order::Receiver;
-use hc_pace::{Pace, Patience};
-use hc_peers::Hearing;
+use hc_peers::{Hearing, Remainder, happened};
 use std::alloc::AllocError;
 
 impl<W: World> Traffic<W> {
-    ghost use Rattle.hc_crowd.specs.Courses.{is_idle, is_over_for, is_over_in_any_case, stops};
-    ghost use Rattle.hc_crowd.specs.Keeping.{FailsAt, Hears, HearsWithin, KeepsPeers};
-    ghost use Rattle.hc_peers.specs.Heard.{HeardAtOnce, HeardFor, HeardOn, IsAnswerOf, NoAnswer};
+    ghost use Rattle.hc_crowd.specs.Courses.{FailsAt, is_fresh, is_idle, is_over_for, is_over_in_any_case, is_stop_for};
+    ghost use Rattle.hc_order.specs.declared.receiver.Receiver.TheVariants.{Client, Origin};
+    ghost use Rattle.hc_peers.specs.Heard.{IsAnswerOf, NoAnswer, told};
+    ghost use Rattle.hc_peers.specs.Hearings.{IsHeardFor, IsToldAtOnce};
+    ghost use Rattle.hc_peers.specs.Keeping.{Hears, HearsWithin, KeepsPeers};
+    ghost use Rattle.hc_peers.specs.Losses.{IsLossOf};
+    ghost use Rattle.hc_peers.specs.Tables.{is_there_and};
     ghost use Rattle.hc_peers.specs.Known.{KeepsKnown, is_cut_at, is_open_at};
     ghost use Rattle.std.specs.BTreeMap.{get};
     ghost use Rattle.std.specs.Ordering.{nat_cmp};
@@ -68,9 +70,14 @@ impl<W: World> Traffic<W> {
     {
         match link {
             Receiver::Client(number) => {
-                self.client_turn(number, cache.awaits(number), limits.patience)
+                let awaited = cache.awaits(number);
+                let heard = self.client_turn(number, awaited, limits.patience)?;
+                Ok(happened(Receiver::Client(number), heard))
             }
-            Receiver::Origin(forward) => self.origin_turn(forward, limits),
+            Receiver::Origin(forward) => {
+                let heard = self.origin_turn(forward, limits)?;
+                Ok(happened(Receiver::Origin(forward), heard))
+            }
         }
     }
 
@@ -80,18 +87,18 @@ impl<W: World> Traffic<W> {
         number: u64,
         awaited: bool,
         patience: Patience,
-    ) -> Result<Option<Happened>, AllocError>
-        ensures heard { Hears W.Stream.has_given W.Stream.has_got (IsAnswerOf number awaited) result self.old.peers self.new.peers }
-        ensures reason { HeardFor number (stops self.old.course) (is_over_for self.old.course self.old.peers number awaited self.old.tick patience)
-            (is_cut_at number self.old.peers.clients.table) (FailsAt W.Stream.has_failed number self.old.peers self.new.peers) result }
-        ensures at_once { is_open_at number self.old.peers.clients.table ≡ true → HeardAtOnce number (is_cut_at number self.old.peers.clients.table)
+    ) -> Result<Heard, AllocError>
+        ensures heard { Hears W.Stream.has_given W.Stream.has_got (IsAnswerOf number awaited) (told (Client number) result) self.old.peers self.new.peers }
+        ensures reason { IsHeardFor (is_stop_for self.old.course self.old.peers number) (is_over_for self.old.course self.old.peers number awaited self.old.tick patience)
+            (is_cut_at number self.old.peers.clients.links) (FailsAt W.Stream.has_failed number self.old.peers self.new.peers) result }
+        ensures at_once { is_open_at number self.old.peers.clients.links ≡ true → IsToldAtOnce (is_cut_at number self.old.peers.clients.links)
             (is_over_in_any_case self.old.course self.old.peers number awaited self.old.tick patience) result }
     {
         let late = self.is_over_for(number, awaited, patience);
         self.peers.unqueue(Receiver::Client(number));
-        if self.peers.clients.is_closed(number) {
+        if self.is_closed(number) {
             self.drop_rest_of_client(number, late);
-            return Ok(None);
+            return Ok(Heard::Nothing);
         }
         self.hear_client(number, awaited, late)
     }
@@ -112,27 +119,44 @@ impl<W: World> Traffic<W> {
     fn is_back(&self, number: u64) -> bool
         ensures { result ≡ true → is_idle self.now.peers number ≡ true }
     {
-        match self.peers.clients.pace(number) {
-            Some(Pace::Idle(_)) => self.peers.clients.has_octets(number),
-            Some(Pace::Asking(_, _)) => false,
-            Some(Pace::Taking(_)) => false,
+        let Some(client) = self.peers.clients.get(number) else {
+            return false;
+        };
+        match client.pace() {
+            Pace::Idle(_) => client.has_octets(),
+            Pace::Asking(_, _) => false,
+            Pace::Taking(_) => false,
+        }
+    }
+
+    /// Whether a client is there whose connection the cache has closed.
+    pub(crate) fn is_closed(&self, number: u64) -> bool
+        ensures { result ≡ is_there_and (get nat_cmp self.now.peers.clients.links number) (λ client. client.closed) }
+    {
+        match self.peers.clients.get(number) {
+            Some(client) => client.is_closed(),
+            None => false,
+        }
+    }
+
+    /// Whether a client is there who wasn't read yet.
+    fn is_fresh(&self, number: u64) -> bool
+        ensures { result ≡ is_fresh self.now.peers number }
+    {
+        match self.peers.clients.get(number) {
+            Some(client) => client.is_fresh(),
             None => false,
         }
     }
 
     /// What is heard of a client. Behind a stop, too, one that wasn't read yet is read once.
-    fn hear_client(
-        &mut self,
-        number: u64,
-        awaited: bool,
-        late: bool,
-    ) -> Result<Option<Happened>, AllocError>
-        ensures heard { Hears W.Stream.has_given W.Stream.has_got (IsAnswerOf number awaited) result self.old.peers self.new.peers }
-        ensures reason { HeardFor number (stops self.old.course) late (is_cut_at number self.old.peers.clients.table) (FailsAt W.Stream.has_failed number self.old.peers self.new.peers) result }
-        ensures at_once { is_open_at number self.old.peers.clients.table ≡ true → HeardAtOnce number (is_cut_at number self.old.peers.clients.table) late result }
+    fn hear_client(&mut self, number: u64, awaited: bool, late: bool) -> Result<Heard, AllocError>
+        ensures heard { Hears W.Stream.has_given W.Stream.has_got (IsAnswerOf number awaited) (told (Client number) result) self.old.peers self.new.peers }
+        ensures reason { IsHeardFor (is_stop_for self.old.course self.old.peers number) late (is_cut_at number self.old.peers.clients.links) (FailsAt W.Stream.has_failed number self.old.peers self.new.peers) result }
+        ensures at_once { is_open_at number self.old.peers.clients.links ≡ true → IsToldAtOnce (is_cut_at number self.old.peers.clients.links) late result }
     {
         let stops = self.course.stops();
-        let is_fresh = self.peers.clients.is_fresh(number);
+        let is_fresh = self.is_fresh(number);
         let ends = self.course.ends_client(is_fresh);
         let hearing = Hearing {
             awaited,
@@ -149,18 +173,13 @@ impl<W: World> Traffic<W> {
 
     /// A link is to be heard again, where more may come behind what was heard, and wherever that is asked for. Where memory
     /// was refused for what came, the link has failed, which is to be heard.
-    fn go_on(
-        &mut self,
-        link: Receiver,
-        heard: &Result<Option<Happened>, AllocError>,
-        in_any_case: bool,
-    )
+    fn go_on(&mut self, link: Receiver, heard: &Result<Heard, AllocError>, in_any_case: bool)
         ensures kept { KeepsPeers W.Stream.has_given W.Stream.has_got self.old.peers self.new.peers }
-        ensures known { KeepsKnown self.old.peers.clients.table self.new.peers.clients.table }
+        ensures known { KeepsKnown self.old.peers.clients.links self.new.peers.clients.links }
     {
         let goes_on = match heard {
-            Ok(Some(_)) => self.peers.is_readable(link),
-            Ok(None) => false,
+            Ok(Heard::Nothing) => false,
+            Ok(_) => self.peers.is_readable(link),
             Err(AllocError) => true,
         };
         if goes_on || in_any_case {
@@ -176,7 +195,7 @@ impl<W: World> Traffic<W> {
         self.lose_late(number, late);
         if self.peers.discard(number, self.buffer.as_mut_slice()) {
             self.let_go(number);
-        } else if self.peers.clients.is_readable(number) {
+        } else if self.peers.is_readable(Receiver::Client(number)) {
             self.give_turn(Receiver::Client(number));
         }
     }
@@ -203,33 +222,33 @@ impl<W: World> Traffic<W> {
 
     /// What is heard in the turn of a forward. Behind a link that has failed before it was known to work, another one is
     /// tried.
-    fn origin_turn(&mut self, forward: u64, limits: Limits) -> Result<Option<Happened>, AllocError>
-        ensures heard { Hears W.Stream.has_given W.Stream.has_got NoAnswer result self.old.peers self.new.peers }
+    fn origin_turn(&mut self, forward: u64, limits: Limits) -> Result<Heard, AllocError>
+        ensures heard { Hears W.Stream.has_given W.Stream.has_got NoAnswer (told (Origin forward) result) self.old.peers self.new.peers }
     {
         if self.peers.lingering.has(forward) {
             self.drop_rest_of_origin(forward);
-            return Ok(None);
+            return Ok(Heard::Nothing);
         }
         self.peers.unqueue(Receiver::Origin(forward));
         if self.peers.retry(forward) {
             self.connect(forward, limits);
-            return Ok(None);
+            return Ok(Heard::Nothing);
         }
         self.hear_origin(forward)
     }
 
     /// What is heard of a forward. One that has failed needs its place no more.
-    fn hear_origin(&mut self, forward: u64) -> Result<Option<Happened>, AllocError>
-        ensures heard { Hears W.Stream.has_given W.Stream.has_got NoAnswer result self.old.peers self.new.peers }
-        ensures reason { HeardOn forward (get nat_cmp self.old.peers.forwards.table forward) result }
+    fn hear_origin(&mut self, forward: u64) -> Result<Heard, AllocError>
+        ensures heard { Hears W.Stream.has_given W.Stream.has_got NoAnswer (told (Origin forward) result) self.old.peers self.new.peers }
+        ensures reason { IsLossOf (get nat_cmp self.old.peers.forwards.links forward) result }
     {
-        let was_linked = self.peers.forwards.has_link(forward);
+        let was_linked = self.peers.is_linked(forward);
         let heard = self
             .peers
             .hear_origin(forward, self.buffer.as_mut_slice(), self.tick);
         self.go_on(Receiver::Origin(forward), &heard, false);
-        self.failures.break_off(was_linked & is_failure(&heard));
-        if !self.peers.forwards.is_there(forward) {
+        self.failures.break_off(was_linked & is_loss(&heard));
+        if !self.peers.forwards.has(forward) {
             self.free_place(forward);
         }
         heard
@@ -268,11 +287,10 @@ impl<W: World> Traffic<W> {
     }
 }
 
-/// Whether a forward has failed by that.
-fn is_failure(heard: &Result<Option<Happened>, AllocError>) -> bool {
+/// Whether a link is lost by that.
+fn is_loss(heard: &Result<Heard, AllocError>) -> bool {
     match heard {
-        Ok(Some(happened)) => matches!(happened.of, Happening::OriginFailed(_)),
-        Ok(None) => false,
+        Ok(heard) => heard.is_lost(),
         Err(AllocError) => false,
     }
 }

@@ -12,14 +12,14 @@ const REFUSAL: &[u8] =
 const REFUSED_LINGERS: u64 = 2_000;
 
 impl<W: World> Traffic<W> {
-    ghost use Rattle.hc_crowd.specs.Keeping.{KeepsPeers};
+    ghost use Rattle.hc_peers.specs.Keeping.{KeepsPeers};
 
     /// Turns away a client who has connected, as far as there is room for such ones. Answers whether one was. Where there is
     /// none, clients wait until they are accepted.
     pub(crate) fn turn_away(&mut self, guest: u64) -> bool
         ensures kept { KeepsPeers W.Stream.has_given W.Stream.has_got self.old.peers self.new.peers }
     {
-        if !self.peers.turned_away.has_room() {
+        if !self.peers.may_turn_away() {
             return false;
         }
         let Some(stream) = self.arrival(guest) else {

@@ -12,7 +12,7 @@ use hc_order::{Reason, Receiver};
 const LONGEST_WAIT: u64 = 1_000;
 
 impl<W: World> Traffic<W> {
-    ghost use Rattle.hc_crowd.specs.Keeping.{KeepsPeers};
+    ghost use Rattle.hc_peers.specs.Keeping.{KeepsPeers};
 
     /// Waits until something is ready or due, and takes in what is. Then a new batch begins.
     pub(crate) fn wait(&mut self, limits: Limits)

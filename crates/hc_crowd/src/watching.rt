@@ -5,25 +5,24 @@ ghost use Rattle.std.specs.Prelude.{◌≡◌, ◌⊎◌, true};
 use crate::limits::Limits;
 use crate::traffic::Traffic;
 use crate::world::World;
-use hc_agenda::{Deadline, Timeout};
-use hc_counts::Failure;
+use hc_agenda::{Deadline, Failure, Timeout};
+use hc_flow::{Patience, Progress};
 use hc_order::Receiver;
-use hc_pace::Patience;
 
 /// So many milliseconds later a client whose time is over is looked at again: a request of it may await its reply.
 const LOOKS_AGAIN: u64 = 1_000;
 
 impl<W: World> Traffic<W> {
-    ghost use Rattle.hc_crowd.specs.Courses.{is_forward_overdue, is_opening_at, is_waiting_at};
-    ghost use Rattle.hc_crowd.specs.Keeping.{KeepsPeers};
+    ghost use Rattle.hc_crowd.specs.Courses.{is_forward_overdue, is_opening_at, is_waiting_at, progress_of};
+    ghost use Rattle.hc_peers.specs.Keeping.{KeepsPeers};
 
     /// A client is looked at once its time may be over. What passes at its link moves no deadline: that is moved, where the
     /// time isn't over, once it has come.
     pub(crate) fn watch_client(&mut self, number: u64, patience: Patience)
         ensures kept { KeepsPeers W.Stream.has_given W.Stream.has_got self.old.peers self.new.peers }
     {
-        if let Some(pace) = self.peers.clients.pace(number) {
-            let look = pace.next_look(self.tick, patience);
+        if let Some(client) = self.peers.clients.get(number) {
+            let look = client.pace().next_look(self.tick, patience);
             self.agenda.note(Timeout::Client, look, number);
         }
     }
@@ -33,9 +32,19 @@ impl<W: World> Traffic<W> {
         ensures kept { KeepsPeers W.Stream.has_given W.Stream.has_got self.old.peers self.new.peers }
         ensures peers { self.new.peers ≡ self.old.peers }
     {
-        if let Some(progress) = self.peers.forwards.progress(forward) {
+        if let Some(progress) = self.progress(forward) {
             let look = progress.next_look(patience);
             self.agenda.note(Timeout::Origin, look, forward);
+        }
+    }
+
+    /// How a forward is getting on at its link, if it has one.
+    fn progress(&self, forward: u64) -> Option<Progress>
+        ensures { result ≡ progress_of forward self.now.peers }
+    {
+        match self.peers.forwards.get(forward) {
+            Some(kept) => kept.progress(),
+            None => None,
         }
     }
 
@@ -109,9 +118,19 @@ impl<W: World> Traffic<W> {
         ensures kept { KeepsPeers W.Stream.has_given W.Stream.has_got self.old.peers self.new.peers }
         ensures only { (is_waiting_at forward self.old.peers ≡ true) ⊎ (self.new.peers ≡ self.old.peers) }
     {
-        if self.peers.forwards.is_waiting(forward) {
+        if self.is_waiting(forward) {
             self.peers.leave_places(forward);
             self.give_up(forward, Failure::Unplaced);
+        }
+    }
+
+    /// Whether a forward is there whose request waits for a link.
+    pub(crate) fn is_waiting(&self, forward: u64) -> bool
+        ensures { result ≡ is_waiting_at forward self.now.peers }
+    {
+        match self.peers.forwards.get(forward) {
+            Some(kept) => kept.is_waiting(),
+            None => false,
         }
     }
 
@@ -120,8 +139,18 @@ impl<W: World> Traffic<W> {
         ensures kept { KeepsPeers W.Stream.has_given W.Stream.has_got self.old.peers self.new.peers }
         ensures only { (is_opening_at forward self.old.peers ≡ true) ⊎ (self.new.peers ≡ self.old.peers) }
     {
-        if self.peers.forwards.is_opening(forward) {
+        if self.is_opening(forward) {
             self.give_up(forward, Failure::Late);
+        }
+    }
+
+    /// Whether a forward is there whose link isn't known to work yet.
+    fn is_opening(&self, forward: u64) -> bool
+        ensures { result ≡ is_opening_at forward self.now.peers }
+    {
+        match self.peers.forwards.get(forward) {
+            Some(kept) => kept.is_opening(),
+            None => false,
         }
     }
 
@@ -130,7 +159,7 @@ impl<W: World> Traffic<W> {
         ensures kept { KeepsPeers W.Stream.has_given W.Stream.has_got self.old.peers self.new.peers }
         ensures only { (is_forward_overdue forward self.old.peers self.old.tick patience ≡ true) ⊎ (self.new.peers ≡ self.old.peers) }
     {
-        let Some(progress) = self.peers.forwards.progress(forward) else {
+        let Some(progress) = self.progress(forward) else {
             return;
         };
         if progress.is_silent(self.tick, patience) {

@@ -5,15 +5,15 @@ ghost use Rattle.std.specs.Prelude.{List, [], ℕ};
 use crate::limits::Limits;
 use crate::traffic::Traffic;
 use crate::world::World;
-use hc_connection::Happened;
 use hc_events::Happening;
 use hc_flow::Presence;
+use hc_link_traits::Happened;
 use hc_order::{Reason, Receiver};
 use std::alloc::AllocError;
 
 impl<W: World> Traffic<W> {
-    ghost use Rattle.hc_connection.specs.Sides.{TellsIfOk};
-    ghost use Rattle.hc_crowd.specs.Keeping.{HearsWithin, KeepsPeers};
+    ghost use Rattle.hc_link_traits.specs.Telling.{TellsIfOk};
+    ghost use Rattle.hc_peers.specs.Keeping.{HearsWithin, KeepsPeers};
     ghost use Rattle.hc_order.specs.Log.{Move};
     ghost use Rattle.hc_peers.specs.Heard.{HeardInTurn, MayBeHeard, NoAnswer};
     ghost use Rattle.hc_peers.specs.Peers.{ArePeers, Bounds, IsNext, MayOpen};

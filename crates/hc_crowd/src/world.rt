@@ -1,6 +1,6 @@
 //! What a crowd needs of the world: clients who connect, an origin to connect to, what is ready, and clocks.
 
-ghost use Rattle.std.specs.Prelude.{ℕ, List, [], IfSome};
+ghost use Rattle.std.specs.Prelude.{[], IfSome};
 ghost use Rattle.hc_flow.specs.Passing.{Stays};
 ghost use Rattle.hc_crowd.specs.Worlds.{IsFreshlyAccepted};
 

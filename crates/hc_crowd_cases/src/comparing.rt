@@ -8,8 +8,8 @@ use crate::verdict::counts_of;
 use hc_cases::Unanswered;
 use hc_core::{Run, run};
 use hc_crowd_world::Play;
+use hc_drive::DriveFault;
 use hc_events::Event;
-use hc_serve::DriveFault;
 use std::alloc::Global;
 use std::mem;
 

@@ -1,12 +1,12 @@
 //! A script is played, and clients are served meanwhile.
 
 use hc_cases::Unanswered;
-use hc_connection::{Batches, Buffered, Recorder};
 use hc_core::{Core, CoreFault, CoreSettings};
 use hc_crowd::{Crowd, Failures, Limits, World};
 use hc_crowd_world::{Made, Noted, Notes, Play, Script, Sheet};
+use hc_drive::{DriveFault, Unwatched, serve_crowd};
 use hc_fields::Octets;
-use hc_serve::{DriveFault, Unwatched, serve_crowd};
+use hc_link_traits::{Batches, Buffered, Recorder};
 use std::alloc::{AllocError, Global};
 use std::cell::RefCell;
 use std::hash::BuildHasher;

@@ -5,8 +5,8 @@ ghost use Rattle.hc_order.specs.Log.{Move};
 ghost use Rattle.std.specs.Prelude.{List};
 
 use crate::notes::Notes;
-use hc_connection::{Awaiting, Batches, Links};
 use hc_framing::MessageText;
+use hc_link_traits::{Awaiting, Batches, Links};
 use hc_order::{Occurrence, Receiver};
 use std::alloc::{AllocError, Global};
 

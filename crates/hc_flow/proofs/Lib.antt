@@ -1,3 +1,5 @@
+pub mod FlowLemmas
 pub mod MoveLemmas
+pub mod PaceLemmas
 pub mod PieceLemmas
 pub mod WeightLemmas

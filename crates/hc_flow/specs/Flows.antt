@@ -1,8 +1,10 @@
 -- What has passed at a flow.
-use Rattle.std.specs.Prelude.{◌≡◌, ◌⊎◌, ℕ, Bool, true, false, List, ◌++◌, Result, Ok, Err}
+use Rattle.std.specs.Prelude.{◌≡◌, ◌⊎◌, ℕ, ◌==◌, Bool, true, false, List, ◌++◌, length, not, Option, Some, None, Result, Ok, Err}
 use Rattle.std.specs.declared.alloc.AllocError.{AllocError}
 use Rattle.hc_flow.specs.Passing.{Gave, Owes}
 use Rattle.hc_flow.specs.declared.flow.Flow.{Flow}
+use Rattle.hc_flow.specs.declared.outbox.Emptying.{Emptying}
+use Rattle.hc_flow.specs.declared.outbox.Emptying.TheVariants.{Emptied}
 use Rattle.hc_flow.specs.declared.stream.Presence.{Presence}
 use Rattle.hc_flow.specs.declared.stream.Presence.TheVariants.{Octets, Later, Over}
 
@@ -37,3 +39,13 @@ KeepsLink before after =
 abbrev pub ShowsOctets : {S : Type 0} → (S → Presence → Type 0) → Flow S → Bool → Type 0
 ShowsOctets may_show flow true = (flow.failed ≡ false) × may_show flow.stream Octets
 ShowsOctets may_show flow false = (flow.failed ≡ true) ⊎ (may_show flow.stream Later ⊎ may_show flow.stream Over)
+
+-- whether octets wait to be written
+abbrev pub is_owed : {S : Type 0} → Flow S → Bool
+is_owed flow = not (length flow.outbox == 0)
+
+-- nothing waits to be written where all of it was, nor without a link
+abbrev pub TellsOwed : Option Emptying → Bool → Type 0
+TellsOwed (Some Emptied) owed = owed ≡ false
+TellsOwed (Some other) owed = Unit {0}
+TellsOwed None owed = owed ≡ false

@@ -1,5 +1,7 @@
 pub mod Emptyings
 pub mod Flows
+pub mod Hearings
+pub mod Paces
 pub mod Passing
 pub mod Pieces
 pub mod Reads

@@ -16,6 +16,11 @@ abbrev pub FailsRead : Type 0 → Type 0 → Arrival → Type 0
 FailsRead before after Failed = after
 FailsRead before after other = before → after
 
+-- an end is told only where the other side has ended
+abbrev pub EndsRead : (has_ended : Type 0) → Arrival → Type 0
+EndsRead has_ended End = has_ended
+EndsRead has_ended other = Unit {0}
+
 -- so many octets, at least one, stand at the front of the buffer
 abbrev pub FitsBuffer : Arrival → List ℕ → Type 0
 FitsBuffer (Octets n) buffer = (0 < n) × (n ≤ length buffer)

@@ -48,7 +48,7 @@ impl<S: Stream> Flow<S> {
     ghost use Rattle.hc_flow.specs.Emptyings.{LeavesWaiting, is_ended_behind, is_failed_emptying, is_writable_behind};
     ghost use Rattle.hc_flow.specs.Flows.{FailsWithStream, FlowGave, FlowOwes, KeepsEnd, KeepsLink, OwesSent, ShowsOctets};
     ghost use Rattle.hc_flow.specs.Passing.{Stays};
-    ghost use Rattle.hc_flow.specs.Reads.{FitsBuffer, HearsArrival, KeepsWaiting, is_failed_read, is_readable_behind};
+    ghost use Rattle.hc_flow.specs.Reads.{EndsRead, FitsBuffer, HearsArrival, KeepsWaiting, is_failed_read, is_readable_behind};
 
     /// That of a stream that is open: at first both reading and writing may be tried.
     pub fn new(alloc: Global, stream: S) -> Self
@@ -307,6 +307,7 @@ impl<S: Stream> Flow<S> {
         ensures got { Stays (S.has_got self.old.stream) (S.has_got self.new.stream) }
         ensures octets { FitsBuffer result buffer.new }
         ensures failed { self.new.failed ≡ is_failed_read result }
+        ensures over { EndsRead (S.has_ended self.new.stream) result }
         ensures half { KeepsEnd S.was_ended self.old self.new }
         ensures fails { FailsWithStream S.has_failed self.old self.new }
         ensures waits { KeepsWaiting result self.old.outbox self.new.outbox }

@@ -3,7 +3,7 @@
 ghost use Rattle.std.specs.Prelude.{ℕ, Bool, true, List, ◌++◌};
 ghost use Rattle.hc_flow.specs.Passing.{Stays};
 ghost use Rattle.hc_flow.specs.declared.stream.Presence.{Presence};
-ghost use Rattle.hc_flow.specs.Reads.{FailsRead, Reads};
+ghost use Rattle.hc_flow.specs.Reads.{EndsRead, FailsRead, Reads};
 ghost use Rattle.hc_flow.specs.Writes.{FailsWrite, Takes};
 
 /// What came of a read that doesn't wait.
@@ -56,6 +56,9 @@ pub trait Stream {
     /// It has failed, likewise.
     ghost has_failed: { Self → Type 0 } = { λ _. Unit {0} };
 
+    /// The other side has ended what it sends, likewise.
+    ghost has_ended: { Self → Type 0 } = { λ _. Unit {0} };
+
     /// That may be what a look at it tells, likewise.
     ghost may_show: { Self → Presence → Type 0 } = { λ _ _. Unit {0} };
 
@@ -64,6 +67,7 @@ pub trait Stream {
         ensures given { Reads (has_given self.old) (has_given self.new) result buffer.new }
         ensures got { Stays (has_got self.old) (has_got self.new) }
         ensures ended { (ended : Bool) → was_ended self.old ended → was_ended self.new ended }
+        ensures over { EndsRead (has_ended self.new) result }
         ensures fails { FailsRead (has_failed self.old) (has_failed self.new) result };
 
     /// What the next read would find, as far as a look tells. It reads nothing.

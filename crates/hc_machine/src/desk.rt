@@ -26,6 +26,7 @@ pub(crate) struct Desk<S: BuildHasher> {
 impl<S: BuildHasher> Desk<S> {
     ghost use Rattle.std.specs.Prelude.{◌≡◌, ◌&&◌, ◌==◌, ℕ};
     ghost use Rattle.std.specs.FinMap.{len};
+    ghost use Rattle.hc_service.specs.declared.settings.CoreOptions.{CoreOptions};
     ghost use Rattle.hc_service.specs.declared.settings.CoreSettings.{CoreSettings};
     ghost use Rattle.hc_service.specs.State.{State, awaits_reply, new_state_with};
     ghost use Rattle.hc_machine.specs.Held.{held_of_client, held_of_forward, is_background};
@@ -33,8 +34,8 @@ impl<S: BuildHasher> Desk<S> {
 
     /// That of a cache to which nothing has happened, with an empty store, and with room for so many connections.
     pub(crate) fn new(alloc: Global, name: Octets, store: Store<S>, room: usize) -> Self
-        ensures { (settings : CoreSettings) → name ≡ settings.name → store ≡ (new_state_with settings room).store
-            → DeskStandsFor settings result (new_state_with settings room) }
+        ensures { (settings : CoreSettings) (options : CoreOptions) → name ≡ settings.name → room ≡ options.connections
+            → store ≡ (new_state_with settings options).store → DeskStandsFor settings result (new_state_with settings options) }
     {
         Desk {
             alloc,

@@ -6,7 +6,7 @@ use crate::desk::Desk;
 use crate::keeping::steps_keep_agreement;
 use hc_events::Event;
 use hc_service::{
-    Action, CoreFault, CoreSettings, StepFault, USUAL_ROOM, is_name, is_room, is_size,
+    Action, CoreFault, CoreOptions, CoreSettings, StepFault, is_name, is_room, is_size,
 };
 use hc_store::Store;
 use lru::DefaultHasher;
@@ -44,8 +44,9 @@ impl<S: BuildHasher> Model for Core<S> {
 impl Core<DefaultHasher> {
     ghost use Rattle.hc_machine.specs.Settings.{GivesCore};
 
-    /// A cache of those settings to which nothing has happened, with room for 1,024 connections. Targets are hashed with a fixed seed; where an
-    /// attacker picks them, use `with_hasher` with a `RandomState`.
+    /// A cache of those settings to which nothing has happened, with the usual options: room for 1,024 connections, and
+    /// responses that set a cookie are stored. Targets are hashed with a fixed seed; where an attacker picks them, use
+    /// `with_hasher` with a `RandomState`.
     pub fn new(alloc: Global, settings: CoreSettings) -> Result<Self, CoreFault>
         ensures { GivesCore result settings }
     {
@@ -54,24 +55,23 @@ impl Core<DefaultHasher> {
 }
 
 impl<S: BuildHasher + Drop> Core<S> {
-    ghost use Rattle.hc_machine.specs.Settings.{GivesCore, GivesRoom};
+    ghost use Rattle.hc_machine.specs.Settings.{GivesCore, GivesCoreWith};
 
     /// The same, whose store hashes targets with that.
     pub fn with_hasher(alloc: Global, settings: CoreSettings, hasher: S) -> Result<Self, CoreFault>
         ensures { GivesCore result settings }
     {
-        Core::with_room(alloc, settings, hasher, USUAL_ROOM)
+        Core::with_options(alloc, settings, hasher, CoreOptions::usual())
     }
 
-    /// The same, with room for so many connections that are open, from 1 to 65,536. Beyond them one that opens is
-    /// refused, by `TooManyConnections`.
-    pub fn with_room(
+    /// The same, with those options. Beyond its room a connection that opens is refused, by `TooManyConnections`.
+    pub fn with_options(
         alloc: Global,
         settings: CoreSettings,
         hasher: S,
-        connections: usize,
+        options: CoreOptions,
     ) -> Result<Self, CoreFault>
-        ensures { GivesRoom result settings connections }
+        ensures { GivesCoreWith result settings options }
     {
         if !is_name(settings.name.as_slice()) {
             return Err(CoreFault::Name);
@@ -79,13 +79,14 @@ impl<S: BuildHasher + Drop> Core<S> {
         if !is_size(settings.keys) {
             return Err(CoreFault::Size);
         }
-        if !is_room(connections) {
+        if !is_room(options.connections) {
             return Err(CoreFault::Room);
         }
-        let store = Store::with_hasher(alloc, settings.keys, settings.bytes as usize, hasher)?;
+        let bytes = settings.bytes as usize;
+        let store = Store::with_hasher(alloc, settings.keys, bytes, options.keeps_cookies, hasher)?;
         Ok(Core {
             failed: false,
-            desk: Desk::new(alloc, settings.name, store, connections),
+            desk: Desk::new(alloc, settings.name, store, options.connections),
         })
     }
 }

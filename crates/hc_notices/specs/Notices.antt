@@ -2,7 +2,7 @@
 use Rattle.std.specs.Prelude.{◌≡◌, ℕ, ◌==◌, List, [], ◌∷◌, ◌++◌, Option, codes, decimal, if◌then◌else◌}
 use Rattle.std.specs.Io.KnownBytes.{Appends}
 use Rattle.hc_notices.specs.declared.notice.Notice.{Notice}
-use Rattle.hc_notices.specs.declared.notice.Notice.TheVariants.{Listening, Deaf, Unreached, Late, Broken, Silent, Unfinished, Unplaced, Heavy, Behind, RecordFailed, RecordFull}
+use Rattle.hc_notices.specs.declared.notice.Notice.TheVariants.{Listening, Deaf, Unreached, Late, Broken, Silent, Unfinished, Unplaced, Heavy, Unpolled, Behind, RecordFailed, RecordFull}
 
 -- the word for so many forwards
 abbrev pub forwards_word : ℕ → List ℕ
@@ -12,6 +12,10 @@ forwards_word count = if count == 1 then codes "forward" else codes "forwards"
 abbrev pub links_word : ℕ → List ℕ
 links_word count = if count == 1 then codes "link" else codes "links"
 
+-- the word for so many times
+abbrev pub times_word : ℕ → List ℕ
+times_word count = if count == 1 then codes "time" else codes "times"
+
 -- the line that says what befell so many forwards, with the line feed behind it
 abbrev pub forwards_line : List ℕ → ℕ → List ℕ
 forwards_line what count = codes "hcache: " ++ (what ++ (codes ": " ++ (decimal count ++ (codes " " ++ (forwards_word count ++ 10 ∷ [])))))
@@ -20,6 +24,10 @@ forwards_line what count = codes "hcache: " ++ (what ++ (codes ": " ++ (decimal 
 abbrev pub heavy_line : ℕ → List ℕ
 heavy_line count = codes "hcache: too much was held, and those who held most were cut off: "
     ++ (decimal count ++ (codes " " ++ (links_word count ++ 10 ∷ [])))
+
+-- the line that says how often the system couldn't say what is ready
+abbrev pub unpolled_line : ℕ → List ℕ
+unpolled_line count = codes "hcache: the system couldn't say what is ready: " ++ (decimal count ++ (codes " " ++ (times_word count ++ 10 ∷ [])))
 
 -- the line on standard error, with its line feed
 abbrev pub notice_line : Notice → List ℕ
@@ -35,6 +43,7 @@ notice_line (Silent count) = forwards_line (codes "the origin fell silent") coun
 notice_line (Unfinished count) = forwards_line (codes "the origin took too long") count
 notice_line (Unplaced count) = forwards_line (codes "no place at the origin came free in time") count
 notice_line (Heavy count) = heavy_line count
+notice_line (Unpolled count) = unpolled_line count
 notice_line Behind = codes "hcache: the clock was set back, and ages don't follow it: a restart is due" ++ 10 ∷ []
 notice_line (RecordFailed reason) = codes "hcache: the recording has ended, and serving goes on: " ++ (reason.now ++ 10 ∷ [])
 notice_line RecordFull = codes "hcache: the recording has ended at its limit, and serving goes on" ++ 10 ∷ []

@@ -1,7 +1,7 @@
 //! What a proxy says on standard error.
 
 ghost use Rattle.std.specs.Prelude.{◌≡◌, IfOk, string_bytes};
-ghost use Rattle.hc_notices.specs.Notices.{forwards_line, forwards_word, heavy_line, links_word, notice_line};
+ghost use Rattle.hc_notices.specs.Notices.{forwards_line, forwards_word, heavy_line, links_word, notice_line, times_word, unpolled_line};
 
 use std::alloc::{AllocError, Global};
 
@@ -39,6 +39,8 @@ pub enum Notice<'a> {
     Unplaced(u64),
     /// So many links were cut off, since so much was held.
     Heavy(u64),
+    /// So often the system couldn't say what is ready.
+    Unpolled(u64),
     /// The wall clock is behind the moment that is told.
     Behind,
     /// The recording has ended since it couldn't be written on, for this reason.
@@ -74,6 +76,7 @@ impl<'a> Notice<'a> {
                 forwards_line(alloc, "no place at the origin came free in time", count)
             }
             Notice::Heavy(count) => heavy_line(alloc, count),
+            Notice::Unpolled(count) => unpolled_line(alloc, count),
             Notice::Behind => format!(in alloc;
                 "hcache: the clock was set back, and ages don't follow it: a restart is due\n"
             ),
@@ -120,6 +123,14 @@ fn heavy_line(alloc: Global, count: u64) -> Result<String, AllocError>
     )
 }
 
+/// The line that says how often the system couldn't say what is ready.
+fn unpolled_line(alloc: Global, count: u64) -> Result<String, AllocError>
+    ensures { IfOk result (λ line. string_bytes line ≡ unpolled_line count) }
+{
+    let times = times_word(count);
+    format!(in alloc; "hcache: the system couldn't say what is ready: {count} {times}\n")
+}
+
 /// The word for so many forwards.
 fn forwards_word(count: u64) -> &'static str
     ensures { result.now ≡ forwards_word count }
@@ -132,4 +143,11 @@ fn links_word(count: u64) -> &'static str
     ensures { result.now ≡ links_word count }
 {
     if count == 1 { "link" } else { "links" }
+}
+
+/// The word for so many times.
+fn times_word(count: u64) -> &'static str
+    ensures { result.now ≡ times_word count }
+{
+    if count == 1 { "time" } else { "times" }
 }

@@ -7,7 +7,7 @@ use Rattle.hc_options.specs.declared.rows.Kind.{Kind}
 use Rattle.hc_options.specs.declared.rows.Kind.TheVariants.{Argument, Flag, Valued}
 use Rattle.hc_options.specs.declared.rows.Row.{Row}
 use Rattle.hc_options.specs.declared.rows.Takes.{Takes}
-use Rattle.hc_options.specs.declared.rows.Takes.TheVariants.{AnyText, FileName, Count, Number, Size, AllowedWords, Names, VaryNames, CacheName, Positions}
+use Rattle.hc_options.specs.declared.rows.Takes.TheVariants.{AnyText, FileName, Count, Number, Size, AllowedWords, Names, VaryNames, CacheName, Positions, OriginAddress}
 use Rattle.hc_options.specs.Values.{count_of, names_of, number_within, size_from}
 use Rattle.hc_options.specs.Allowing.{normalized_of, words_of}
 
@@ -51,7 +51,7 @@ row_rule row = kind_rule row.kind row.name.now row.required
 
 -- ---- which values are taken
 
--- whether a row takes that text; a cache's name and positions are read where they are asked for
+-- whether a row takes that text; a cache's name, positions and an origin are read where they are asked for
 abbrev pub is_taken : Takes → Text → Bool
 is_taken AnyText text = true
 is_taken FileName text = if bytes_eq text (codes "-") then false else true
@@ -63,6 +63,7 @@ is_taken Names text = is_some (names_of text)
 is_taken VaryNames text = is_some (normalized_of text)
 is_taken CacheName text = true
 is_taken Positions text = true
+is_taken OriginAddress text = true
 
 -- ---- the tables
 

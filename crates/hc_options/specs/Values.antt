@@ -12,7 +12,7 @@ use Rattle.hc_transcript.specs.Limits.{greatest_number}
 use Rattle.hc_history.specs.declared.settings.UnmarkedReplies.{UnmarkedReplies}
 use Rattle.hc_history.specs.declared.settings.UnmarkedReplies.TheVariants.{Allow, ErrorsOnly}
 use Rattle.hc_options.specs.declared.rows.Takes.{Takes}
-use Rattle.hc_options.specs.declared.rows.Takes.TheVariants.{AnyText, FileName, Count, Number, Size, AllowedWords, Names, VaryNames, CacheName, Positions}
+use Rattle.hc_options.specs.declared.rows.Takes.TheVariants.{AnyText, FileName, Count, Number, Size, AllowedWords, Names, VaryNames, CacheName, Positions, OriginAddress}
 
 -- ---- numbers
 
@@ -67,6 +67,7 @@ number_of Names text = None
 number_of VaryNames text = None
 number_of CacheName text = None
 number_of Positions text = None
+number_of OriginAddress text = None
 
 -- where it may be left out
 abbrev pub number_by : Takes → Option Text → Option (Option ℕ)

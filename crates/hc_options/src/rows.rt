@@ -36,6 +36,8 @@ pub enum Takes {
     CacheName,
     /// Positions of records. Which texts are some is said where records are asked for.
     Positions,
+    /// A host and a port of an origin. Which texts aren't is said where origins are asked for.
+    OriginAddress,
 }
 
 /// An argument or an option that a command takes.
@@ -81,6 +83,7 @@ impl Takes {
             Takes::CacheName => {
                 "not a letter and then at most 31 letters, digits, '-', '_' and '.'"
             }
+            Takes::OriginAddress => "no origin has port 0",
             Takes::Positions => {
                 "not a decimal from 1 to 999999999999, nor two with a hyphen between them, of which the first is no \
                 greater"

@@ -24,7 +24,8 @@ pub fn number_of(takes: Takes, text: &[u8]) -> Option<u64>
         | Takes::Names
         | Takes::VaryNames
         | Takes::CacheName
-        | Takes::Positions => None,
+        | Takes::Positions
+        | Takes::OriginAddress => None,
     }
 }
 

@@ -12,6 +12,7 @@ use Rattle.hc_events.specs.declared.Happening.TheVariants.{ClientOpened, ClientB
 use Rattle.hc_service.specs.declared.action.Action.{Action}
 use Rattle.hc_service.specs.declared.action.Action.TheVariants as action
 use Rattle.hc_service.specs.declared.fault.StepFault.TheVariants.{Memory, MomentTooLarge, UnknownNumber, TooManyConnections, Failed}
+use Rattle.hc_service.specs.declared.settings.CoreOptions.{CoreOptions}
 use Rattle.hc_service.specs.declared.settings.CoreSettings.{CoreSettings}
 use Rattle.hc_service.specs.Agreement.{Agrees, History}
 use Rattle.hc_service.specs.Follows.{Follows, forward_after, lost_by}
@@ -269,13 +270,13 @@ module _ (settings : CoreSettings) (event : Event) (s : State) (actions : List A
 
 -- ---- in a new cache, and from there on
 
-pub new_awaits : (settings : CoreSettings) (room : ℕ) → AwaitWhereLeft (new_state_with settings room)
-new_awaits settings room c k is leaves = absurd (none_some (get (new_state_with settings room).connections c) k (get_none c) is)
+pub new_awaits : (settings : CoreSettings) (options : CoreOptions) → AwaitWhereLeft (new_state_with settings options)
+new_awaits settings options c k is leaves = absurd (none_some (get (new_state_with settings options).connections c) k (get_none c) is)
 
-pub steps_await : (settings : CoreSettings) (room : ℕ) (events : List Event) (results : List StepResult) (s : State) → Steps settings (new_state_with settings room) events results (Some s)
+pub steps_await : (settings : CoreSettings) (options : CoreOptions) (events : List Event) (results : List StepResult) (s : State) → Steps settings (new_state_with settings options) events results (Some s)
     → AwaitWhereLeft s
-steps_await settings room events results s steps =
-    steps_keep settings AwaitWhereLeft (λ event s actions s' was v. event_awaits settings event s actions s' v was) events results (new_state_with settings room) s steps (new_awaits settings room)
+steps_await settings options events results s steps =
+    steps_keep settings AwaitWhereLeft (λ event s actions s' was v. event_awaits settings event s actions s' v was) events results (new_state_with settings options) s steps (new_awaits settings options)
 
 -- ---- runs
 

@@ -6,6 +6,7 @@ use Rattle.std.specs.Option.{IsSome, is_some}
 use Rattle.std.specs.Ordering.{nat_cmp}
 use Rattle.hc_transcript.specs.declared.record.Record.{Record}
 use Rattle.hc_events.specs.declared.Event.{Event}
+use Rattle.hc_service.specs.declared.settings.CoreOptions.{CoreOptions}
 use Rattle.hc_service.specs.declared.settings.CoreSettings.{CoreSettings}
 use Rattle.hc_service.specs.Agreement.{Agrees, HasLeft, History}
 use Rattle.hc_service.specs.Choices.{OnTest}
@@ -115,9 +116,9 @@ runs_rest settings events results s s' h records opened ended rest earlier runs 
 none_of : {X : Type 0} (o : Option X) → is_some o ≡ false → o ≡ None
 none_of o none = unless o (λ x is. false_true (sym none ∙ ap is_some is))
 
-pub new_mirrors : (room : ℕ) (settings : CoreSettings) (number : ℕ) (given got : List ℕ) (reads failures : ℕ)
-    → Mirrors room (new_state_with settings room) (Before None number given got reads failures ∷ [])
-new_mirrors room settings number given got reads failures = record {
+pub new_mirrors : (options : CoreOptions) (settings : CoreSettings) (number : ℕ) (given got : List ℕ) (reads failures : ℕ)
+    → Mirrors options.connections (new_state_with settings options) (Before None number given got reads failures ∷ [])
+new_mirrors options settings number given got reads failures = record {
   connections = λ c. ap is_some (get_none c);
   forwards = λ f. ap is_some (get_none f);
   count = let none = len-empty nat_cmp Connection in omega (arith, none);
@@ -126,8 +127,8 @@ new_mirrors room settings number given got reads failures = record {
   has_room = refl;
 }
 
-pub empty_mirrors : (room : ℕ) (settings : CoreSettings) → Mirrors room (new_state_with settings room) []
-empty_mirrors room settings = record {
+pub empty_mirrors : (options : CoreOptions) (settings : CoreSettings) → Mirrors options.connections (new_state_with settings options) []
+empty_mirrors options settings = record {
   connections = λ c. ap is_some (get_none c);
   forwards = λ f. ap is_some (get_none f);
   count = let none = len-empty nat_cmp Connection in omega (arith, none);

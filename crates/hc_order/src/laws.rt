@@ -3,6 +3,7 @@
 ghost use Rattle.std.specs.Prelude.{◌≡◌, ℕ, List, [], ◌∷◌, Option, Some, None};
 ghost use Rattle.hc_events.specs.declared.Event.{Event};
 ghost use Rattle.hc_service.specs.declared.action.Action.{Action};
+ghost use Rattle.hc_service.specs.declared.settings.CoreOptions.{CoreOptions};
 ghost use Rattle.hc_service.specs.declared.settings.CoreSettings.{CoreSettings};
 ghost use Rattle.hc_service.specs.Runs.{StepResult, Steps};
 ghost use Rattle.hc_service.specs.Serves.{Serves, first_fault};
@@ -42,9 +43,9 @@ pub fn what_may_happen_in_turn_is_served()
 /// A new cache mirrors the empty log, and what is before all others, where no connection was opened before; and a cache
 /// that mirrors what is before all others is at rest.
 pub fn a_new_cache_mirrors_what_is_before()
-    ensures mirrors { (room : ℕ) (settings : CoreSettings) (number : ℕ) (given got : List ℕ) (reads failures : ℕ)
-        → Mirrors room (new_state_with settings room) (Before None number given got reads failures ∷ []) }
+    ensures mirrors { (options : CoreOptions) (settings : CoreSettings) (number : ℕ) (given got : List ℕ) (reads failures : ℕ)
+        → Mirrors options.connections (new_state_with settings options) (Before None number given got reads failures ∷ []) }
     ensures rests { (room : ℕ) (s : State) (last : Option ℕ) (number : ℕ) (given got : List ℕ) (reads failures : ℕ)
         → Mirrors room s (Before last number given got reads failures ∷ []) → IsAtRest s }
-    ensures empty { (room : ℕ) (settings : CoreSettings) → Mirrors room (new_state_with settings room) [] }
+    ensures empty { (options : CoreOptions) (settings : CoreSettings) → Mirrors options.connections (new_state_with settings options) [] }
 {}

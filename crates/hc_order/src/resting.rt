@@ -9,6 +9,7 @@ ghost use Rattle.hc_transcript.specs.declared.record.Record.{Record};
 ghost use Rattle.hc_events.specs.declared.Event.{Event};
 ghost use Rattle.hc_events.specs.declared.Happening.TheVariants.{ClientEnd, OriginEnd, OriginFailed};
 ghost use Rattle.hc_service.specs.declared.action.Action.{Action};
+ghost use Rattle.hc_service.specs.declared.settings.CoreOptions.{CoreOptions};
 ghost use Rattle.hc_service.specs.declared.settings.CoreSettings.{CoreSettings};
 ghost use Rattle.hc_service.specs.Agreement.{Agrees, History};
 ghost use Rattle.hc_service.specs.Follows.{forward_after};
@@ -22,11 +23,11 @@ ghost use Rattle.hc_order.specs.Resting.{AllHaveEnded, AwaitWhereLeft, HasEnded,
 /// A connection of which nothing more is read awaits a reply, behind which it closes: in a new cache, behind each event
 /// that is served, and so wherever steps have led a new cache; and where a cache agrees with what has happened.
 pub fn leaving_connections_await_a_reply()
-    ensures begins { (settings : CoreSettings) (room : ℕ) → AwaitWhereLeft (new_state_with settings room) }
+    ensures begins { (settings : CoreSettings) (options : CoreOptions) → AwaitWhereLeft (new_state_with settings options) }
     ensures event { (settings : CoreSettings) (event : Event) (s : State) (actions : List Action) (other : State)
         → AwaitWhereLeft s → Serves settings event s actions other → AwaitWhereLeft other }
-    ensures run { (settings : CoreSettings) (room : ℕ) (events : List Event) (results : List StepResult) (s : State)
-        → Steps settings (new_state_with settings room) events results (Some s) → AwaitWhereLeft s }
+    ensures run { (settings : CoreSettings) (options : CoreOptions) (events : List Event) (results : List StepResult) (s : State)
+        → Steps settings (new_state_with settings options) events results (Some s) → AwaitWhereLeft s }
     ensures agrees { (s : State) (h : History) → Agrees s h → AwaitWhereLeft s }
 {}
 

@@ -4,8 +4,8 @@ use Rattle.hc_flow.specs.Flows.{FlowGave, FlowOwes}
 use Rattle.hc_flow.specs.Passing.{Gave}
 use Rattle.hc_order.specs.Passages.{Passage, closing}
 use Rattle.hc_peers.specs.declared.client.Client.{Client}
-use Rattle.hc_peers.specs.Links.{IsClient}
-use Rattle.hc_heard.proofs.FlowLemmas.{gave_closed, gave_more, gave_still}
+use Rattle.hc_peers.specs.Clients.{IsClient}
+use Rattle.hc_flow.proofs.FlowLemmas.{gave_closed, gave_more, gave_still}
 
 module _ {S : Type 0} (has_given has_got : S → List ℕ → Type 0) where
   module _ (client client' : Client S) where

@@ -4,7 +4,7 @@ use Rattle.std.specs.BTreeMap.{BTreeMap, WritesThrough, get}
 use Rattle.std.specs.Ordering.{nat_cmp}
 use Rattle.hc_peers.specs.declared.client.Client.{Client}
 use Rattle.hc_peers.specs.Known.{KeepsKnown, known_at, unqueued}
-use Rattle.hc_heard.proofs.TableLemmas.{put, same_number}
+use Rattle.hc_peers.proofs.TableLemmas.{put, same_number}
 
 module _ {S : Type 0} (table table' : BTreeMap ℕ (Client S)) (k : ℕ) (value value' : Client S) (there : Some value ≡ get nat_cmp table k) (wrote : WritesThrough nat_cmp (nat_cmp k) table value' table') where
   at_one : (b : Bool) (n : ℕ) → (k == n) ≡ b → unqueued value' ≡ unqueued value → option_map unqueued (cond b (Some value') (get nat_cmp table n)) ≡ known_at n table

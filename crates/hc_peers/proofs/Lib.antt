@@ -1,6 +1,9 @@
 pub mod ClientLemmas
+pub mod ForwardLemmas
 pub mod GuestLemmas
 pub mod KnownLemmas
+pub mod LentLemmas
+pub mod LinkLemmas
 pub mod PeerLemmas
 pub mod PlaceLemmas
 pub mod ReadLemmas

@@ -5,21 +5,22 @@ use Rattle.std.specs.Cmp.{unsigned_tied}
 use Rattle.std.specs.Ordering.{nat_cmp}
 use Rattle.hc_agenda.specs.declared.places.Places.{Places}
 use Rattle.hc_agenda.specs.Places.{HasPlaceLeft, KeepsPlaces, has_place, places_given, places_in_all}
-use Rattle.hc_guests.specs.declared.lingering.Lingering.{Lingering}
-use Rattle.hc_guests.specs.Lingering.{GainsNoLingerer, is_lingering}
-use Rattle.hc_guests.specs.Tables.{KeepsOthers}
-use Rattle.hc_peers.specs.declared.clients.Clients.{Clients}
-use Rattle.hc_forwards.specs.declared.forwards.Forwards.{Forwards}
+use Rattle.hc_peers.specs.declared.lingerer.Lingerer.{Lingerer}
+use Rattle.hc_peers.specs.Lingering.{GainsNoLingerer, is_lingering}
+use Rattle.hc_peers.specs.Tables.{KeepsOthers}
+use Rattle.hc_peers.specs.declared.client.Client.{Client}
+use Rattle.hc_peers.specs.declared.forward.Forward.{Forward}
 use Rattle.hc_peers.specs.declared.peers.Peers.{Peers}
-use Rattle.hc_forwards.specs.Links.{GainsNoLink, is_linked, is_linked_at}
-use Rattle.hc_peers.specs.Links.{GainsNoClient}
+use Rattle.hc_peers.specs.declared.table.Table.{Table}
+use Rattle.hc_peers.specs.Forwards.{GainsNoLink, is_linked, is_linked_at}
+use Rattle.hc_peers.specs.Clients.{GainsNone}
 use Rattle.hc_peers.specs.Peers.{Bounds, GainsNoGuest, HasFewLinks}
-use Rattle.hc_heard.proofs.TableLemmas.{same_number}
+use Rattle.hc_peers.proofs.TableLemmas.{same_number}
 
 -- ---- links stay few
 
 -- there are no more clients' links than there are
-pub same_clients : {S : Type 0} (clients : Clients S) → GainsNoClient clients clients
+pub same_clients : {S : Type 0} (clients : Table (Client S)) → GainsNone clients clients
 same_clients clients = omega arith
 
 -- nor more guests' links, or links of those who were turned away
@@ -31,7 +32,7 @@ pub same_places : (places : Places) → KeepsPlaces places places
 same_places places = record { all = refl; given = refl; same = λ f. refl }
 
 -- no link comes to those that are there
-pub few_still : {S : Type 0} (bounds : Bounds) (old new : Peers S) → GainsNoClient old.clients new.clients → GainsNoGuest old new → GainsNoLink old.forwards new.forwards → GainsNoLingerer old.lingering new.lingering
+pub few_still : {S : Type 0} (bounds : Bounds) (old new : Peers S) → GainsNone old.clients new.clients → GainsNoGuest old new → GainsNoLink old.forwards new.forwards → GainsNoLingerer old.lingering new.lingering
     → KeepsPlaces old.places new.places → HasFewLinks bounds old → HasFewLinks bounds new
 few_still bounds old new clients guests forwards lingering places few = record {
   clients = omega (arith, clients, guests.0, few.clients);
@@ -73,7 +74,7 @@ not_so false is other = absurd (cc)
 
 module _ {S : Type 0} (bounds : Bounds) (old : Peers S) (few : HasFewLinks bounds old) (k : ℕ) where
   -- a forward with a place, in which none lingers, gets a link
-  pub few_linked : (forwards : Forwards S) → KeepsOthers k old.forwards.table forwards.table → true ≡ (has_place k old.places && not (is_lingering k old.lingering))
+  pub few_linked : (forwards : Table (Forward S)) → KeepsOthers k old.forwards.links forwards.links → true ≡ (has_place k old.places && not (is_lingering k old.lingering))
       → HasFewLinks bounds (record old { forwards = forwards })
   few_linked forwards others own =
       let its = both (has_place k old.places) (not (is_lingering k old.lingering)) own in
@@ -91,7 +92,7 @@ module _ {S : Type 0} (bounds : Bounds) (old : Peers S) (few : HasFewLinks bound
       }
 
   -- the link of a forward with a place, and without another link, lingers
-  pub few_lingering : (lingering : Lingering S) → ((f : ℕ) → is_at (nat_cmp k) f ≡ false → is_lingering f lingering ≡ is_lingering f old.lingering)
+  pub few_lingering : (lingering : Table (Lingerer S)) → ((f : ℕ) → is_at (nat_cmp k) f ≡ false → is_lingering f lingering ≡ is_lingering f old.lingering)
       → true ≡ (has_place k old.places && not (is_linked k old.forwards)) → HasFewLinks bounds (record old { lingering = lingering })
   few_lingering lingering others own =
       let its = both (has_place k old.places) (not (is_linked k old.forwards)) own in record {

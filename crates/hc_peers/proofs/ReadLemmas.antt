@@ -5,7 +5,7 @@ use Rattle.hc_flow.specs.Flows.{FlowGave, FlowOwes}
 use Rattle.hc_flow.specs.Passing.{Gave}
 use Rattle.hc_order.specs.Passages.{Passage}
 use Rattle.hc_peers.specs.declared.client.Client.{Client}
-use Rattle.hc_peers.specs.Links.{IsClient}
+use Rattle.hc_peers.specs.Clients.{IsClient}
 
 -- no octets came of it
 pub still_client : {S : Type 0} (has_given has_got : S → List ℕ → Type 0) (client : Client S) (flow : Flow S) (passage : Passage) → client.closed ≡ false

@@ -3,13 +3,13 @@ use Rattle.std.proofs.Common.{◌≡◌, ℕ, List, Option, Some, None}
 use Rattle.std.specs.BTreeMap.{BTreeMap, WritesThrough, get}
 use Rattle.std.specs.Ordering.{nat_cmp}
 use Rattle.hc_flow.specs.Passing.{Stays}
-use Rattle.hc_heard.proofs.TableLemmas.{lent_stays}
+use Rattle.hc_peers.proofs.TableLemmas.{lent_stays}
 use Rattle.hc_order.specs.declared.receiver.Receiver.TheVariants.{Client as to_client}
 use Rattle.hc_order.specs.Log.{Move}
 use Rattle.hc_order.specs.Passages.{Passage, passage_of}
 use Rattle.hc_peers.specs.declared.client.Client.{Client}
 use Rattle.hc_peers.specs.declared.peers.Peers.{Peers}
-use Rattle.hc_peers.specs.Links.{AreClients, IsClientAt}
+use Rattle.hc_peers.specs.Clients.{AreClients, IsClientAt}
 use Rattle.hc_peers.specs.Peers.{ArePeers, Bounds}
 use Rattle.hc_peers.specs.Shown.{AreShown, IsShownAt, ShowNoMore}
 
@@ -23,7 +23,7 @@ told_shown has_given has_got table log are = λ n. shown_at has_given has_got (g
 
 -- and so it is with all links together
 pub peers_show : {S : Type 0} (has_given has_got : S → List ℕ → Type 0) (bounds : Bounds) (peers : Peers S) (log : List Move) → ArePeers has_given has_got bounds peers log → ShowNoMore has_got peers log
-peers_show has_given has_got bounds peers log are = (told_shown has_given has_got peers.clients.table log are.clients, are.guests.1)
+peers_show has_given has_got bounds peers log are = (told_shown has_given has_got peers.clients.links log are.clients, are.guests.1)
 
 -- one is lent, and what was written to its link stays
 pub lent_shown : {S : Type 0} (has_got : S → List ℕ → Type 0) (table table' : BTreeMap ℕ (Client S)) (k : ℕ) (client client' : Client S) → Some client ≡ get nat_cmp table k

@@ -1,10 +1,10 @@
 -- Why a client is heard.
 use Rattle.std.specs.Prelude.{◌≡◌, ◌||◌, Bool, true, false, Option, Some, None, Result, Ok, Err}
 use Rattle.std.specs.declared.alloc.AllocError.{AllocError}
-use Rattle.hc_heard.specs.Hearings.{FailsOnly, HasFailed}
-use Rattle.hc_heard.specs.Links.{is_owed}
-use Rattle.hc_heard.specs.declared.heard.Heard.{Heard}
-use Rattle.hc_heard.specs.declared.heard.Heard.TheVariants.{Octets, End, Lost, Nothing}
+use Rattle.hc_flow.specs.Hearings.{FailsOnly, HasFailed}
+use Rattle.hc_flow.specs.Flows.{is_owed}
+use Rattle.hc_flow.specs.declared.heard.Heard.{Heard}
+use Rattle.hc_flow.specs.declared.heard.Heard.TheVariants.{Octets, End, Lost, Nothing}
 use Rattle.hc_order.specs.declared.occurrence.Reason.TheVariants.{Peer, Stop, Late, Reset, Held}
 use Rattle.hc_peers.specs.declared.client.Client.{Client}
 use Rattle.hc_peers.specs.declared.client.Hearing.{Hearing}
@@ -20,6 +20,11 @@ abbrev pub HasFailedAt : {S : Type 0} → (S → Type 0) → Option (Client S) �
 HasFailedAt has_failed (Some before) (Some after) = HasFailed has_failed before.flow after.flow
 HasFailedAt has_failed None after = ⊥
 HasFailedAt has_failed (Some before) None = ⊥
+
+-- a client is there, which has ended what it sends
+abbrev pub HasEndedAt : {S : Type 0} → (S → Type 0) → Option (Client S) → Type 0
+HasEndedAt has_ended None = ⊥
+HasEndedAt has_ended (Some client) = has_ended client.flow.stream
 
 -- a client is read, and its own end is heard, until a stop is asked; then its end is heard for that; or it is heard because its time is over, because it was cut off, or because its link has failed
 abbrev pub IsHeardFor : (stops is_late is_cut : Bool) → (has_failed : Type 0) → Result Heard AllocError → Type 0
@@ -40,7 +45,7 @@ isnt_read client hearing =
     client.ended || (client.closed || (client.cut || (hearing.late || (client.flow.failed || ((hearing.awaited || is_owed client.flow) || hearing.stops)))))
 
 -- a client's link has failed only where that was known before, where its stream has failed by now, or on that ground
-abbrev pub FailsOnlyAt : {S : Type 0} → (S → Type 0) → (ground : Type 0) → Option (Client S) → Option (Client S) → Type 0
-FailsOnlyAt has_failed ground (Some before) (Some after) = FailsOnly has_failed ground before.flow after.flow
-FailsOnlyAt has_failed ground None None = Unit {0}
-FailsOnlyAt has_failed ground before after = ⊥
+abbrev pub ClientFailsOnly : {S : Type 0} → (S → Type 0) → (ground : Type 0) → Option (Client S) → Option (Client S) → Type 0
+ClientFailsOnly has_failed ground (Some before) (Some after) = FailsOnly has_failed ground before.flow after.flow
+ClientFailsOnly has_failed ground None None = Unit {0}
+ClientFailsOnly has_failed ground before after = ⊥

@@ -3,11 +3,11 @@ use Rattle.std.specs.Prelude.{◌≡◌, ℕ, ◌&&◌, Bool, false, Option, Som
 use Rattle.std.specs.BTreeMap.{BTreeMap, get}
 use Rattle.std.specs.Ordering.{nat_cmp}
 use Rattle.hc_flow.specs.declared.outbox.Emptying.{Emptying}
-use Rattle.hc_guests.specs.Tables.{is_there_and}
-use Rattle.hc_pace.specs.Paces.{written}
-use Rattle.hc_pace.specs.declared.pace.Pace.{Pace}
+use Rattle.hc_peers.specs.Tables.{is_there_and}
+use Rattle.hc_flow.specs.Paces.{written}
+use Rattle.hc_flow.specs.declared.pace.Pace.{Pace}
 use Rattle.hc_peers.specs.declared.client.Client.{Client}
-use Rattle.hc_heard.specs.Links.{is_owed}
+use Rattle.hc_flow.specs.Flows.{is_owed}
 
 -- the client where it stands among the turns, or doesn't
 abbrev pub turned : {S : Type 0} → (queued : Bool) → Client S → Client S

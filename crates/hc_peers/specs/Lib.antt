@@ -1,8 +1,15 @@
+pub mod Clients
+pub mod Forwards
+pub mod Guests
 pub mod Heard
 pub mod Hearings
+pub mod Keeping
 pub mod Known
-pub mod Links
+pub mod Lingering
+pub mod Losses
 pub mod Peers
 pub mod Shown
+pub mod Tables
 pub mod Telling
 pub mod Times
+pub mod TurnedAway

@@ -2,11 +2,11 @@
 
 ghost use Rattle.std.specs.Prelude.{◌≡◌, ◌⊎◌, ◌&&◌, ◌||◌, not, Bool, true, false, [], length, Some, nat_lt, IsErr};
 
-use hc_flow::{Arrival, Emptying, Flow, Readiness, Stream};
+use hc_flow::{
+    Arrival, Emptying, Flow, Heard, Pace, Patience, Readiness, Stream, hear_flow, wants_turn,
+};
 use hc_framing::MessageText;
-use hc_heard::{Heard, hear_flow, wants_turn};
 use hc_order::Reason;
-use hc_pace::{Pace, Patience};
 use std::alloc::{AllocError, Global};
 
 /// What decides how a client is heard.
@@ -23,7 +23,7 @@ pub struct Hearing {
 }
 
 /// One client's link, and what the cache was told of it.
-pub(crate) struct Client<S: Stream> {
+pub struct Client<S: Stream> {
     flow: Flow<S>,
     /// Whether the cache was told that the client sends no more.
     ended: bool,
@@ -56,11 +56,11 @@ impl<S: Stream + Drop> Drop for Client<S> {
 
 impl<S: Stream> Client<S> {
     ghost use Rattle.hc_order.specs.Passages.{Passage, closing, ending, opened_with};
-    ghost use Rattle.hc_pace.specs.Paces.{due, owing, written};
-    ghost use Rattle.hc_heard.specs.Hearings.{FailsOnly, HasFailed, IsHeardInTurn, IsHeardOpen, KeepsHeard, KeepsSent, ends_by, wants_turn};
+    ghost use Rattle.hc_flow.specs.Paces.{due, owing, written};
+    ghost use Rattle.hc_flow.specs.Hearings.{FailsOnly, HasFailed, IsHeardInTurn, IsHeardOpen, IsRealEnd, KeepsHeard, KeepsSent, ends_by, wants_turn};
     ghost use Rattle.hc_peers.specs.Hearings.{IsHeardFor, IsToldAtOnce, isnt_read};
-    ghost use Rattle.hc_heard.specs.Links.{TellsOwed, is_owed};
-    ghost use Rattle.hc_peers.specs.Links.{IsClient, may_go};
+    ghost use Rattle.hc_flow.specs.Flows.{TellsOwed, is_owed};
+    ghost use Rattle.hc_peers.specs.Clients.{IsClient, may_go};
     ghost use Rattle.hc_peers.specs.Times.{pace_behind};
     ghost use Rattle.hc_flow.specs.Passing.{Stays};
 
@@ -99,6 +99,7 @@ impl<S: Stream> Client<S> {
         ensures in_turn { IsHeardInTurn hearing.awaited result }
         ensures owed { IsHeardInTurn (is_owed self.old.flow) result }
         ensures reason { IsHeardFor hearing.stops hearing.late self.old.cut (HasFailed S.has_failed self.old.flow self.new.flow) result }
+        ensures over { IsRealEnd (S.has_ended self.new.flow.stream) result }
         ensures at_once { self.old.ended ≡ false → self.old.closed ≡ false → IsToldAtOnce self.old.cut hearing.late result }
         ensures fails { FailsOnly S.has_failed ((hearing.late ≡ true) ⊎ IsErr result) self.old.flow self.new.flow }
         ensures rest { self.new ≡ record self.old {
@@ -157,6 +158,7 @@ impl<S: Stream> Client<S> {
     fn read(&mut self, alloc: Global, buffer: &mut [u8], tick: u64) -> Result<Heard, AllocError>
         ensures kept { self.old.closed ≡ false → (passage : Passage) → IsClient S.has_given S.has_got self.old passage
             → KeepsHeard (IsClient S.has_given S.has_got self.new) result passage }
+        ensures over { IsRealEnd (S.has_ended self.new.flow.stream) result }
         ensures reason { (late cut : Bool) → IsHeardFor false late cut (HasFailed S.has_failed self.old.flow self.new.flow) result }
         ensures fails { FailsOnly S.has_failed (IsErr result) self.old.flow self.new.flow }
         ensures rest { self.new ≡ record self.old { flow = self.new.flow; ended = ends_by result self.old.ended; fresh = false; pace = pace_behind result tick self.old.pace } }
@@ -187,7 +189,7 @@ impl<S: Stream> Client<S> {
         sent
     }
 
-    /// The cache has closed the connection: behind what is owed the client finds an end. Answers whether it was open.
+    /// The cache has closed the connection: behind what is owed the client finds an end. Returns whether it was open.
     pub(crate) fn close(&mut self) -> bool
         ensures kept { (passage : Passage) → IsClient S.has_given S.has_got self.old passage
             → IsClient S.has_given S.has_got self.new (closing passage) }
@@ -217,7 +219,7 @@ impl<S: Stream> Client<S> {
         emptying
     }
 
-    /// What the system tells of the link. Answers whether it has to get a turn for that now.
+    /// What the system tells of the link. Returns whether it has to get a turn for that now.
     pub(crate) fn learn(&mut self, readiness: Readiness) -> bool
         ensures kept { (passage : Passage) → IsClient S.has_given S.has_got self.old passage → IsClient S.has_given S.has_got self.new passage }
         ensures first { result ≡ (wants_turn readiness && not self.old.queued) }
@@ -253,7 +255,7 @@ impl<S: Stream> Client<S> {
         self.cut = true;
     }
 
-    /// Reads what a client whose connection is closed still sends, and drops it. Answers whether nothing more comes.
+    /// Reads what a client whose connection is closed still sends, and drops it. Returns whether nothing more comes.
     pub(crate) fn discard(&mut self, buffer: &mut [u8]) -> bool
         ensures kept { (passage : Passage) → IsClient S.has_given S.has_got self.old passage → IsClient S.has_given S.has_got self.new passage }
         ensures fails { FailsOnly S.has_failed ⊥ self.old.flow self.new.flow }
@@ -280,69 +282,69 @@ impl<S: Stream> Client<S> {
     }
 
     /// Whether the cache has closed the connection.
-    pub(crate) fn is_closed(&self) -> bool
+    pub fn is_closed(&self) -> bool
         ensures { result ≡ self.now.closed }
     {
         self.closed
     }
 
     /// How it is getting on.
-    pub(crate) fn pace(&self) -> Pace
+    pub fn pace(&self) -> Pace
         ensures { result ≡ self.now.pace }
     {
         self.pace
     }
 
     /// Whether its time is over by that millisecond, unless a request of it awaits its reply.
-    pub(crate) fn is_overdue(&self, tick: u64, patience: Patience) -> bool
+    pub fn is_overdue(&self, tick: u64, patience: Patience) -> bool
         ensures { result ≡ nat_lt (due self.now.pace patience) tick }
     {
         self.pace.is_overdue(tick, patience)
     }
 
     /// Whether it wasn't read yet.
-    pub(crate) fn is_fresh(&self) -> bool
+    pub fn is_fresh(&self) -> bool
         ensures { result ≡ self.now.fresh }
     {
         self.fresh
     }
 
     /// Whether it was cut off.
-    pub(crate) fn is_cut(&self) -> bool
+    pub fn is_cut(&self) -> bool
         ensures { result ≡ self.now.cut }
     {
         self.cut
     }
 
     /// Whether octets wait to be written.
-    pub(crate) fn is_owed(&self) -> bool
+    pub fn is_owed(&self) -> bool
         ensures { result ≡ is_owed self.now.flow }
     {
         self.flow.is_owed()
     }
 
     /// How many octets of memory are held for what is owed.
-    pub(crate) fn weight(&self) -> usize
+    pub fn weight(&self) -> usize
         ensures { nat_lt 0 result ≡ is_owed self.now.flow }
     {
         self.flow.weight()
     }
 
     /// Whether octets of it wait to be read, as far as a look tells.
-    pub(crate) fn has_octets(&self) -> bool
+    pub fn has_octets(&self) -> bool
         ensures { result ≡ true → self.now.flow.failed ≡ false }
     {
         self.flow.has_octets()
     }
 
     /// Whether a read may bring something now.
-    pub(crate) fn is_readable(&self) -> bool
+    pub fn is_readable(&self) -> bool
         ensures { result ≡ self.now.flow.readable }
     {
         self.flow.is_readable()
     }
 
-    /// It stands among the turns. Answers whether it didn't before.
+    /// It stands among the turns. Returns whether it didn't before.
     pub(crate) fn queue(&mut self) -> bool
         ensures kept { (passage : Passage) → IsClient S.has_given S.has_got self.old passage → IsClient S.has_given S.has_got self.new passage }
         ensures first { result ≡ not self.old.queued }

@@ -9,7 +9,7 @@ use hc_arguments::{ProxyLimits, ProxyPatience, Proxying, RecordTerms, Serving};
 use hc_auditing::Trouble;
 use hc_command::Server;
 use hc_crowd::{Limits, Patience};
-use hc_sockets::{Claim, Proxy, RecordTo, ServeFault, Service, serve, serve_proxy};
+use hc_sockets::{Claim, Proxy, RecordTo, ServeFault, Service, Unrecordable, serve, serve_proxy};
 use std::io;
 use std::io::Write;
 use std::net::Net;
@@ -74,6 +74,7 @@ fn names_of(service: Service<'_>) -> Proxy<'_> {
             strict: true,
             limit: None,
         }),
+        keeps_cookies: true,
     }
 }
 
@@ -83,7 +84,7 @@ where
     R: Files + Net + Clock + RandomSource + AllocGlobal,
     R::File: Claim,
     requires { AreGood proxying.settings }
-    ensures { (result ≡ 3) ⊎ ((result ≡ 0) × SaysSome (E.contents faults.old) (E.contents faults.new)) }
+    ensures { (result ≡ 3) ⊎ (result ≡ 64) ⊎ ((result ≡ 0) × SaysSome (E.contents faults.old) (E.contents faults.new)) }
 {
     let Proxying {
         listen,
@@ -91,15 +92,18 @@ where
         file,
         terms,
         limits,
+        keeps_cookies,
         settings,
     } = proxying;
     let proxy = Proxy {
         listen,
         origin,
         recording: recording_to(file, terms),
+        keeps_cookies,
     };
     match serve_proxy(rt, proxy, in_milliseconds(limits), settings, faults) {
         Ok(()) => 0,
+        Err(ServeFault::Unrecordable(kind)) => unrecorded(kind, file_of(proxy), faults),
         Err(fault) => unserved(fault, proxy, faults),
     }
 }
@@ -147,28 +151,69 @@ fn milliseconds(seconds: u64) -> u64 {
 fn unserved<E: Write>(fault: ServeFault, names: Proxy<'_>, faults: &mut E) -> u8
     ensures { result ≡ 3 }
 {
-    let (trouble, name) = trouble_of(fault, names);
-    trouble.told(name, faults)
+    match fault {
+        ServeFault::Memory => Trouble::Memory.told("", faults),
+        ServeFault::Listener(reason) => Trouble::Device(reason).told(names.listen, faults),
+        ServeFault::Origin(reason) => Trouble::Device(reason).told(names.origin, faults),
+        ServeFault::OpenFiles { limit, wanted } => too_few_files(limit, wanted, faults),
+        ServeFault::Unrecordable(_) => broken("it is no file", file_of(names), faults),
+        ServeFault::Record(reason) => Trouble::Device(reason).told(file_of(names), faults),
+        ServeFault::Signals(reason) => without_signals(reason, faults),
+        ServeFault::Random(reason) => Trouble::Device(reason).told("random numbers", faults),
+        ServeFault::Poll(reason) => unpolled(reason, faults),
+        ServeFault::Monotonic(reason) => Trouble::Device(reason).told("monotonic clock", faults),
+        ServeFault::Clock => broken("it is past the year 9999", "clock", faults),
+    }
 }
 
-// What went wrong, and the name of what it went wrong with.
-fn trouble_of<'a>(fault: ServeFault, names: Proxy<'a>) -> (Trouble, &'a str) {
-    match fault {
-        ServeFault::Memory => (Trouble::Memory, ""),
-        ServeFault::Listener(reason) => (Trouble::Device(reason), names.listen),
-        ServeFault::Origin(reason) => (Trouble::Device(reason), names.origin),
-        ServeFault::Record(reason) => (Trouble::Device(reason), file_of(names)),
-        ServeFault::Random(reason) => (Trouble::Device(reason), "random numbers"),
-        ServeFault::OpenFiles => {
-            let reason =
-                "so many may be open that --max-connections and --origin-connections don't fit";
-            (Trouble::Device(io::Error::other(reason)), "open files")
-        }
-        ServeFault::Clock => {
-            let reason = io::Error::other("it is past the year 9999");
-            (Trouble::Device(reason), "clock")
-        }
-    }
+// Says that something failed for that reason, which isn't the system's, and answers the exit status.
+fn broken<E: Write>(reason: &'static str, name: &str, faults: &mut E) -> u8
+    ensures { result ≡ 3 }
+{
+    Trouble::Device(io::Error::other(reason)).told(name, faults)
+}
+
+// Says that the system can't say what is ready, and answers the exit status.
+fn unpolled<E: Write>(reason: io::Error, faults: &mut E) -> u8
+    ensures { result ≡ 3 }
+{
+    Trouble::Device(reason).told(
+        "the system can't say what is ready, a hundred times in a row",
+        faults,
+    )
+}
+
+// Says that a file is one to which nothing is recorded, and answers the exit status.
+fn unrecorded<E: Write>(kind: Unrecordable, name: &str, faults: &mut E) -> u8
+    ensures { result ≡ 64 }
+{
+    let _ = writeln!(
+        faults,
+        "error: {name}: {kind}, and --record takes a regular file or /dev/null"
+    );
+    64
+}
+
+// Says that more files have to be open than may be, and answers the exit status.
+fn too_few_files<E: Write>(limit: u64, wanted: u64, faults: &mut E) -> u8
+    ensures { result ≡ 3 }
+{
+    let _ = writeln!(
+        faults,
+        "error: device\nthe limit on open files is {limit}, and {wanted} are wanted: raise it (ulimit -n {wanted})"
+    );
+    3
+}
+
+// Says that a stop couldn't be seen, and answers the exit status.
+fn without_signals<E: Write>(reason: io::Error, faults: &mut E) -> u8
+    ensures { result ≡ 3 }
+{
+    let _ = writeln!(
+        faults,
+        "error: device\n/proc/self/status: {reason}: it tells of signals that ask to stop, so mount /proc"
+    );
+    3
 }
 
 // The name of the file that is recorded to.

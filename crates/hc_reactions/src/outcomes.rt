@@ -75,6 +75,7 @@ fn is_put(put: Put) -> bool
 {
     match put {
         Put::Stored => true,
+        Put::SetsCookie => false,
         Put::TooLarge => false,
         Put::NoMemory => false,
     }

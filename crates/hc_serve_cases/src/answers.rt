@@ -74,9 +74,14 @@ fn answer_in_memory(
         trickles: true,
         ..*scene
     };
+    let without_cookies = Scene {
+        keeps_cookies: false,
+        ..*scene
+    };
     match question {
         "order" => say_run(alloc, Told::Calls, scene, None, out),
         "order as time passes" => say_run(alloc, Told::Calls, &in_time, None, out),
+        "order without cookies" => say_run(alloc, Told::Calls, &without_cookies, None, out),
         "third call of the client fails" => say_run(alloc, Told::Calls, scene, THIRD, out),
         "read after read" => say_run(alloc, Told::Reads, &trickling, None, out),
         "replies" => say_run(alloc, Told::Octets, scene, None, out),

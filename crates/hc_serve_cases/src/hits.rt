@@ -7,8 +7,8 @@ use crate::scene::{Scene, Site, Ticking, new_core};
 use crate::telling::word_of;
 use hc_cases::Unanswered;
 use hc_connection::Connection;
+use hc_drive::DriveFault;
 use hc_machine::Core;
-use hc_serve::DriveFault;
 use std::alloc::{AllocError, Global};
 use std::fmt::Write;
 
@@ -22,7 +22,7 @@ pub(crate) fn say_hits(
     scene: &Scene<'_>,
     out: &mut String,
 ) -> Result<(), Unanswered> {
-    let mut core = new_core(alloc)?;
+    let mut core = new_core(alloc, scene.keeps_cookies)?;
     say_both(alloc, &mut core, scene, out)
 }
 

@@ -1,10 +1,10 @@
 //! Links in memory, which tell what was read from them and written to them.
 
 ghost use Rattle.std.specs.Prelude.{◌≡◌, ◌≤◌, ◌++◌, [], length, take};
-ghost use Rattle.hc_connection.specs.Links.{IsBeginning};
+ghost use Rattle.hc_link_traits.specs.Links.{IsBeginning};
 
 use crate::notebook::{Device, Notebook};
-use hc_connection::{Link, LinkFailure};
+use hc_link_traits::{Link, LinkFailure};
 use std::alloc::Global;
 
 /// Octets that are given out, and how many were.

@@ -2,16 +2,17 @@
 
 ghost use Rattle.std.specs.Prelude.{ℕ};
 
-use crate::scene::{core_for, number_of, text_of};
+use crate::scene::{core_with, number_of, text_of};
 use crate::telling::word_of;
 use hc_cases::Unanswered;
-use hc_connection::{Awaiting, Links, Off};
+use hc_drive::{DriveFault, drive};
 use hc_events::{Event, Happening};
 use hc_fields::Octets;
 use hc_framing::MessageText;
+use hc_link_traits::{Awaiting, Links, Off};
 use hc_machine::{Core, CoreFault};
 use hc_order::{Occurrence, Reason, Receiver};
-use hc_serve::{DriveFault, drive};
+use hc_service::CoreOptions;
 use std::alloc::{AllocError, Global};
 use std::hash::BuildHasher;
 
@@ -28,7 +29,11 @@ pub(crate) fn say_room(
     let [connections, steps @ ..] = about else {
         return Err(Unanswered::Unknown);
     };
-    match core_for(alloc, number_of(connections.as_slice())?) {
+    let options = CoreOptions {
+        connections: number_of(connections.as_slice())?,
+        ..CoreOptions::usual()
+    };
+    match core_with(alloc, options) {
         Ok(mut core) => say_steps(alloc, &mut core, steps, out),
         Err(CoreFault::Memory) => Err(Unanswered::Memory),
         Err(fault) => {

@@ -4,9 +4,10 @@ use crate::links::Memory;
 use crate::notebook::{Device, Fault, Notebook};
 use crate::scene::{Scene, Site, Ticking, new_core};
 use hc_cases::Unanswered;
-use hc_connection::{Clock, Connection, Link, Origins};
+use hc_connection::Connection;
+use hc_drive::{DriveFault, serve_connection};
+use hc_link_traits::{Clock, Link, Origins};
 use hc_machine::Core;
-use hc_serve::{DriveFault, serve_connection};
 use std::alloc::Global;
 use std::hash::BuildHasher;
 
@@ -119,7 +120,7 @@ fn serve(
     notebook: &Notebook,
     run: &mut Outcome,
 ) -> Result<(), Unanswered> {
-    let mut core = new_core(alloc)?;
+    let mut core = new_core(alloc, scene.keeps_cookies)?;
     let site = Site {
         alloc,
         scene,

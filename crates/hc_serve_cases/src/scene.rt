@@ -3,10 +3,10 @@
 use crate::links::Memory;
 use crate::notebook::{Device, Notebook};
 use hc_cases::Unanswered;
-use hc_connection::{Clock, LinkFailure, Origins};
 use hc_fields::Octets;
+use hc_link_traits::{Clock, LinkFailure, Origins};
 use hc_machine::{Core, CoreFault};
-use hc_service::{CoreSettings, USUAL_ROOM};
+use hc_service::{CoreOptions, CoreSettings};
 use std::alloc::Global;
 use std::cell::Cell;
 use std::hash::BuildHasherDefault;
@@ -14,19 +14,23 @@ use std::hash::BuildHasherDefault;
 /// The answer of an origin that can't be connected to.
 const NONE: &[u8] = b"-";
 
-/// A new cache with room for so many connections, which keeps the largest body too; or why there is none.
-pub(crate) fn core_for(alloc: Global, connections: usize) -> Result<Core, CoreFault> {
+/// A new cache with those options, which keeps the largest body too; or why there is none.
+pub(crate) fn core_with(alloc: Global, options: CoreOptions) -> Result<Core, CoreFault> {
     let settings = CoreSettings {
         name: Octets::from_slice(alloc, b"hcache")?,
         keys: 4,
         bytes: 67_108_864,
     };
-    Core::with_room(alloc, settings, BuildHasherDefault::new(), connections)
+    Core::with_options(alloc, settings, BuildHasherDefault::new(), options)
 }
 
-/// A new cache.
-pub(crate) fn new_core(alloc: Global) -> Result<Core, Unanswered> {
-    match core_for(alloc, USUAL_ROOM) {
+/// A new cache, which keeps responses that set a cookie, or doesn't.
+pub(crate) fn new_core(alloc: Global, keeps_cookies: bool) -> Result<Core, Unanswered> {
+    let options = CoreOptions {
+        keeps_cookies,
+        ..CoreOptions::usual()
+    };
+    match core_with(alloc, options) {
         Ok(core) => Ok(core),
         Err(CoreFault::Memory) => Err(Unanswered::Memory),
         Err(_) => Err(Unanswered::Unknown),
@@ -95,6 +99,8 @@ pub(crate) struct Scene<'a> {
     pub(crate) step: u64,
     /// Whether origins give and take one octet a call, and nothing of their links is noted.
     pub(crate) trickles: bool,
+    /// Whether the cache keeps responses that set a cookie.
+    pub(crate) keeps_cookies: bool,
     pub(crate) client: &'a [u8],
     /// The answers of origins, forward by forward.
     pub(crate) answers: &'a [Vec<u8>],
@@ -110,6 +116,7 @@ impl<'a> Scene<'a> {
             most: number_of(most.as_slice())?,
             step: 0,
             trickles: false,
+            keeps_cookies: true,
             client: client.as_slice(),
             answers,
         })

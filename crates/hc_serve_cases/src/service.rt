@@ -218,9 +218,13 @@ fn word_of(answer: &Result<(), ServeFault>) -> &'static str {
         Err(ServeFault::Memory) => "no memory",
         Err(ServeFault::Listener(_)) => "listener failed",
         Err(ServeFault::Origin(_)) => "origin not found",
-        Err(ServeFault::OpenFiles) => "too few open files",
+        Err(ServeFault::OpenFiles { .. }) => "too few open files",
+        Err(ServeFault::Unrecordable(_)) => "no file to record to",
         Err(ServeFault::Record(_)) => "record failed",
+        Err(ServeFault::Signals(_)) => "signals unknown",
         Err(ServeFault::Random(_)) => "no random numbers",
+        Err(ServeFault::Poll(_)) => "poll failed",
+        Err(ServeFault::Monotonic(_)) => "clock unread",
         Err(ServeFault::Clock) => "clock failed",
     }
 }

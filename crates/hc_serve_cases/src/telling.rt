@@ -5,7 +5,7 @@ use crate::runs::{Outcome, run};
 use crate::scene::Scene;
 use crate::verdicts::say_verdict;
 use hc_cases::Unanswered;
-use hc_serve::DriveFault;
+use hc_drive::DriveFault;
 use std::alloc::{AllocError, Global};
 use std::fmt::Write;
 

@@ -5,6 +5,7 @@ use Rattle.std.specs.List.{IsDistinct}
 use Rattle.std.specs.Ordering.{nat_cmp}
 use Rattle.hc_head.specs.Targets.{same_target}
 use Rattle.hc_service.specs.declared.settings.CoreSettings.{CoreSettings}
+use Rattle.hc_service.specs.declared.settings.CoreOptions.{CoreOptions}
 use Rattle.hc_service.specs.State.{new_state_with}
 use Rattle.hc_service.specs.Agreement.{Agrees}
 use Rattle.hc_service.specs.Runs.{nothing_yet}
@@ -20,8 +21,8 @@ no_keys : IsDistinct same_target []
 unfolding IsDistinct
 no_keys = tt
 
-pub new_agrees : (settings : CoreSettings) (room : ℕ) → Agrees (new_state_with settings room) nothing_yet
-new_agrees settings room = record {
+pub new_agrees : (settings : CoreSettings) (options : CoreOptions) → Agrees (new_state_with settings options) nothing_yet
+new_agrees settings options = record {
   consistent = record {
     counted = record {
       are_read = tt;

@@ -36,9 +36,9 @@ use Rattle.hc_transcript.specs.Written.{IsWritableAnswer}
 use Rattle.hc_transcript.specs.Items.{Item}
 use Rattle.hc_store.specs.declared.putting.Put.{Put}
 use Rattle.hc_store.specs.declared.putting.Put.TheVariants as put
-use Rattle.hc_store.specs.Entries.{Holdings, Entries, variants_of, weight}
-use Rattle.hc_store.specs.Calls.{Puts, Freshens, invalidated}
-use Rattle.hc_store.specs.Changes.{Validation, after_validation, is_validated, renewed, may_stay}
+use Rattle.hc_store.specs.Entries.{AllHeld, Holdings, Entries, may_hold, variants_of, weight}
+use Rattle.hc_store.specs.Calls.{Puts, Freshens, invalidated, is_small_enough}
+use Rattle.hc_store.specs.Changes.{Validation, after_validation, is_validated, may_become, renewed, may_stay}
 use Rattle.hc_service.specs.declared.cases.Cause.{Cause}
 use Rattle.hc_service.specs.declared.cases.Cause.TheVariants.{UriMiss}
 use Rattle.hc_service.specs.declared.open.OpenForward.{OpenForward}
@@ -49,9 +49,9 @@ use Rattle.hc_service.specs.Replying.{Wanted, made_reply, entry_reply, entry_sta
 use Rattle.hc_service.specs.Choices.{Finds, PutsResponse, Stores, may_update, validation_by}
 use Rattle.hc_update.specs.States.{invalidates}
 use Rattle.hc_service.specs.Answers.{Renews}
-use Rattle.hc_service.specs.Agreement.{AllHeld, HasSource, CanReply, IsSound}
+use Rattle.hc_service.specs.Agreement.{HasSource, CanReply, IsSound}
 use Rattle.hc_service.specs.Laws.{IsReceivedAnswer, IsToldStatus, HasSources}
-use Rattle.hc_service.proofs.StoreLemmas.{all_weaken, choose_held, put_held, without_held, variants_held, held_weaken, left_held, freshen_held}
+use Rattle.hc_store.proofs.HeldLemmas.{all_weaken, choose_held, put_held, without_held, variants_held, held_weaken, left_held, freshen_held}
 use Rattle.hc_service.proofs.SourceLemmas.{on_test}
 use Rattle.hc_service.proofs.NameLemmas.{hit_writable, forward_writable, replacing_writable, collapsed_writable}
 
@@ -134,8 +134,8 @@ found_can_reply target asked old chosen new h finds = subst all_can_reply (sym f
 
 -- a 304 was received as an answer with these lines
 pub freshened_can_reply : (v : Validation) (stored : Stored) → (to_head : Bool) (response : Message ResponseHead) → IsReceivedAnswer to_head response → v.not_modified ≡ response.head
-    → v.response_time < 253402300800 → CanReply stored → may_stay v stored ≡ true → CanReply (after_validation v stored)
-freshened_can_reply v stored to_head response r same early can stays = go (is_validated v stored) refl
+    → v.response_time < 253402300800 → CanReply stored → (keeps : Bool) → may_stay keeps v stored ≡ true → CanReply (after_validation v stored)
+freshened_can_reply v stored to_head response r same early can keeps stays = go (is_validated v stored) refl
   where
     newer : List Field
     newer = dated v.response_time (kept_lines v.not_modified.fields)
@@ -151,7 +151,8 @@ freshened_can_reply v stored to_head response r same early can stays = go (is_va
     go : (b : Bool) → is_validated v stored ≡ b → CanReply (cond b (renewed v stored) stored)
     go false none = can
     go true is =
-        let small : fits (renewed v stored) ≡ true = sym (ap (λ (b : Bool). not b || fits (renewed v stored)) is) ∙ stays in
+        let becomes : may_become keeps (renewed v stored) ≡ true = sym (ap (λ (b : Bool). not b || may_become keeps (renewed v stored)) is) ∙ stays in
+        let small = (and_parts (fits (renewed v stored)) (may_hold keeps (renewed v stored)) becomes).0 in
         let parts = and_parts (nat_le (length (renewed v stored).fields) 100) (nat_le (fields_weight (renewed v stored).fields) 65536) small in
         let older = filter (λ (f : Field). not (has_name f.name newer)) stored.fields in
         record {
@@ -173,8 +174,8 @@ freshen_can_reply forward moment position to_head response old new r early h f =
     subst all_can_reply (sym f.becomes)
     (freshen_held (λ _ stored. CanReply stored) old.bytes v forward.target f.left old.entries
     (without_held (λ _ stored. CanReply stored) forward.target old.entries h)
-    (all_weaken _ (λ stored. CanReply (after_validation v stored)) (λ stored p. freshened_can_reply v stored to_head response r refl early p.0 p.1) f.left
-    (left_held CanReply v (variants_of forward.target old.entries) f.left (variants_held (λ _ stored. CanReply stored) forward.target old.entries h) f.leaves)))
+    (all_weaken _ (λ stored. CanReply (after_validation v stored)) (λ stored p. freshened_can_reply v stored to_head response r refl early p.0 old.keeps_cookies p.1) f.left
+    (left_held CanReply old.keeps_cookies v (variants_of forward.target old.entries) f.left (variants_held (λ _ stored. CanReply stored) forward.target old.entries h) f.leaves)))
   where
     v : Validation
     v = validation_by forward moment position response.head
@@ -209,8 +210,9 @@ put_can_reply forward moment response old stored new r early h stores =
         let state = initial_state forward.request forward.moment response moment in
         subst all_can_reply (sym p.1)
         (put_held (λ _ stored. CanReply stored) old.keys old.bytes forward.target state old.entries h
-        (begun_can_reply forward moment response r early may (and_parts (fits state) (nat_le (weight state) old.bytes) p.0).0))
-    by_answer may put.TooLarge p = subst all_can_reply (sym p.1) h
+        (begun_can_reply forward moment response r early may (and_parts (fits state) (nat_le (weight state) old.bytes) (and_parts (may_hold old.keeps_cookies state) (is_small_enough state old) p.0).1).0))
+    by_answer may put.SetsCookie p = subst all_can_reply (sym p.1) h
+    by_answer may put.TooLarge p = subst all_can_reply (sym p.2) h
     by_answer may put.NoMemory p = subst all_can_reply (sym p.2) h
 
 -- both facts of what is held

@@ -17,6 +17,7 @@ use Rattle.hc_service.specs.declared.open.OpenExchange.{OpenExchange}
 use Rattle.hc_service.specs.declared.open.Purpose.{Purpose}
 use Rattle.hc_service.specs.declared.open.Purpose.TheVariants as purpose
 use Rattle.hc_service.specs.declared.settings.CoreSettings.{CoreSettings}
+use Rattle.hc_service.specs.declared.settings.CoreOptions.{CoreOptions}
 use Rattle.hc_service.specs.Numbers.{one_more}
 use Rattle.hc_service.specs.State.{State, Table, new_state_with, open_now}
 use Rattle.hc_service.specs.Joining.{FewWait, most_waiting, shared, waiting_for, waits_for}
@@ -194,11 +195,11 @@ event_few settings event s actions s' few v = run_few settings v.turns (passed_t
 
 -- ---- steps
 
-pub steps_few : (settings : CoreSettings) (room : ℕ) (events : List Event) (results : List StepResult) (s : State) → Steps settings (new_state_with settings room) events results (Some s) → FewWait s
-steps_few settings room events results s steps =
-    steps_keep settings FewWait (event_few settings) events results (new_state_with settings room) s steps
+pub steps_few : (settings : CoreSettings) (options : CoreOptions) (events : List Event) (results : List StepResult) (s : State) → Steps settings (new_state_with settings options) events results (Some s) → FewWait s
+steps_few settings options events results s steps =
+    steps_keep settings FewWait (event_few settings) events results (new_state_with settings options) s steps
     (λ f. let none = none_few (λ (x : OpenExchange). waits_for f x.waits_for) in omega (arith, none))
 
-pub runs_few : (settings : CoreSettings) (room : ℕ) (events : List Event) (results : List StepResult) (records : List Record) (s : State)
-    → Runs settings (new_state_with settings room) nothing_yet events results records (Some s) → FewWait s
-runs_few settings room events results records s runs = steps_few settings room events results s (runs_steps settings events results (new_state_with settings room) nothing_yet records (Some s) runs)
+pub runs_few : (settings : CoreSettings) (options : CoreOptions) (events : List Event) (results : List StepResult) (records : List Record) (s : State)
+    → Runs settings (new_state_with settings options) nothing_yet events results records (Some s) → FewWait s
+runs_few settings options events results records s runs = steps_few settings options events results s (runs_steps settings events results (new_state_with settings options) nothing_yet records (Some s) runs)

@@ -25,6 +25,7 @@ use Rattle.hc_service.specs.declared.open.OpenExchange.{OpenExchange}
 use Rattle.hc_service.specs.declared.open.Purpose.{Purpose}
 use Rattle.hc_service.specs.declared.open.Purpose.TheVariants as purpose
 use Rattle.hc_service.specs.declared.settings.CoreSettings.{CoreSettings}
+use Rattle.hc_service.specs.declared.settings.CoreOptions.{CoreOptions}
 use Rattle.hc_service.specs.Numbers.{after_opening, asked, noted, one_more, sent}
 use Rattle.hc_service.specs.State.{State, Table, Awaited, exchange_for, new_state_with, open_now}
 use Rattle.hc_service.specs.Joining.{AllHaveForwards, HasForward, HasOwnForward, LeavesNobody, WaitsUntilEnd, shared, waiting_for, waits_for}
@@ -954,14 +955,14 @@ each_leaves settings (event ∷ events) (Err TooManyConnections ∷ results) s h
 each_leaves settings (event ∷ events) (Err Failed ∷ results) s h records end have runs = tt
 
 -- in a new cache nothing is open
-new_have : (settings : CoreSettings) (room : ℕ) → AllHaveForwards (new_state_with settings room)
-new_have settings room e x is = absurd (none_some (get (new_state_with settings room).exchanges e) x (get_none e) is)
+new_have : (settings : CoreSettings) (options : CoreOptions) → AllHaveForwards (new_state_with settings options)
+new_have settings options e x is = absurd (none_some (get (new_state_with settings options).exchanges e) x (get_none e) is)
 
-pub new_runs_leave : (settings : CoreSettings) (room : ℕ) (events : List Event) (results : List StepResult) (records : List Record) (s : State)
-    → Runs settings (new_state_with settings room) nothing_yet events results records (Some s) → AllHaveForwards s
-new_runs_leave settings room events results records s runs = (runs_leave settings events results (new_state_with settings room) s nothing_yet records (new_have settings room) runs).have_forwards
+pub new_runs_leave : (settings : CoreSettings) (options : CoreOptions) (events : List Event) (results : List StepResult) (records : List Record) (s : State)
+    → Runs settings (new_state_with settings options) nothing_yet events results records (Some s) → AllHaveForwards s
+new_runs_leave settings options events results records s runs = (runs_leave settings events results (new_state_with settings options) s nothing_yet records (new_have settings options) runs).have_forwards
 
-pub new_each_leaves : (settings : CoreSettings) (room : ℕ) (events : List Event) (results : List StepResult) (records : List Record) (end : Option State)
-    → (runs : Runs settings (new_state_with settings room) nothing_yet events results records end)
-    → EachLeads LeavesNobody settings (new_state_with settings room) nothing_yet events results records end runs
-new_each_leaves settings room events results records end runs = each_leaves settings events results (new_state_with settings room) nothing_yet records end (new_have settings room) runs
+pub new_each_leaves : (settings : CoreSettings) (options : CoreOptions) (events : List Event) (results : List StepResult) (records : List Record) (end : Option State)
+    → (runs : Runs settings (new_state_with settings options) nothing_yet events results records end)
+    → EachLeads LeavesNobody settings (new_state_with settings options) nothing_yet events results records end runs
+new_each_leaves settings options events results records end runs = each_leaves settings events results (new_state_with settings options) nothing_yet records end (new_have settings options) runs

@@ -21,6 +21,7 @@ use Rattle.hc_service.specs.declared.open.OpenExchange.{OpenExchange}
 use Rattle.hc_service.specs.declared.open.Purpose.{Purpose}
 use Rattle.hc_service.specs.declared.open.Purpose.TheVariants as purpose
 use Rattle.hc_service.specs.declared.settings.CoreSettings.{CoreSettings}
+use Rattle.hc_service.specs.declared.settings.CoreOptions.{CoreOptions}
 use Rattle.hc_service.specs.Cases.{Case, case_before_store}
 use Rattle.hc_service.specs.Cases.Case.{Hit, Forward}
 use Rattle.hc_service.specs.Numbers.{one_more}
@@ -414,6 +415,6 @@ steps_keep settings P keeps (event ∷ events) (Err UnknownNumber ∷ results) s
 steps_keep settings P keeps (event ∷ events) (Err TooManyConnections ∷ results) s end steps is = steps_keep settings P keeps events results s end steps.1 is
 steps_keep settings P keeps (event ∷ events) (Err Failed ∷ results) s end steps is = absurd steps
 
-pub steps_wait : (settings : CoreSettings) (room : ℕ) (events : List Event) (results : List StepResult) (s : State) → Steps settings (new_state_with settings room) events results (Some s) → WaitForOpen s
-steps_wait settings room events results s steps =
-    steps_keep settings WaitForOpen (event_waits settings) events results (new_state_with settings room) s steps (λ e f x is waits. absurd (none_some (get (new_state_with settings room).exchanges e) x (get_none e) is))
+pub steps_wait : (settings : CoreSettings) (options : CoreOptions) (events : List Event) (results : List StepResult) (s : State) → Steps settings (new_state_with settings options) events results (Some s) → WaitForOpen s
+steps_wait settings options events results s steps =
+    steps_keep settings WaitForOpen (event_waits settings) events results (new_state_with settings options) s steps (λ e f x is waits. absurd (none_some (get (new_state_with settings options).exchanges e) x (get_none e) is))

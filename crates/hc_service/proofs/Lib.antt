@@ -23,5 +23,6 @@ pub mod EventLemmas
 pub mod RunLemmas
 pub mod LeftLemmas
 pub mod FewLemmas
+pub mod CookieLemmas
 pub mod ForwardLemmas
 pub mod FollowLemmas

@@ -46,7 +46,7 @@ use Rattle.hc_service.specs.Agreement.{HasSource, CanReply, AsksAfter}
 use Rattle.hc_service.specs.Runs.{strict}
 use Rattle.hc_service.specs.Laws.{HasSources, IsReceivedAnswer, IsReceivedAsk, is_response, recorded_forward}
 use Rattle.hc_service.specs.LowerLaws.{ForwardLaws}
-use Rattle.hc_service.proofs.StoreLemmas.{chosen_held, validated_held}
+use Rattle.hc_store.proofs.HeldLemmas.{chosen_held, validated_held}
 use Rattle.hc_service.proofs.SourceLemmas.{on_test, found_sources, still_sources, still_source, put_sources}
 use Rattle.hc_service.proofs.EntryLemmas.{all_can_reply, found_can_reply, put_can_reply, IsFit, hit_fit, replacing_fit, passed_fit, made_fit}
 use Rattle.hc_service.proofs.NameLemmas.{cache_name, hit_writable, forward_writable}

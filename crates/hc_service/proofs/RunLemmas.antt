@@ -17,6 +17,7 @@ use Rattle.hc_service.specs.declared.numbers.Numbers.{Numbers}
 use Rattle.hc_service.specs.declared.open.Purpose.{Purpose}
 use Rattle.hc_service.specs.declared.open.Purpose.TheVariants as purpose
 use Rattle.hc_service.specs.declared.settings.CoreSettings.{CoreSettings}
+use Rattle.hc_service.specs.declared.settings.CoreOptions.{CoreOptions}
 use Rattle.hc_service.specs.Settings.{AreGood}
 use Rattle.hc_service.specs.Numbers.{one_more}
 use Rattle.hc_service.specs.Replying.{collapsed_reply}
@@ -248,14 +249,14 @@ right_judged records end to =
       };
     }
 
-pub runs_judged : (settings : CoreSettings) (room : ℕ) (events : List Event) (results : List StepResult) (records : List Record) (end : Option State)
-    → Runs settings (new_state_with settings room) nothing_yet events results records end → IsJudgedRight records
-runs_judged settings room events results records end runs = right_judged records end (runs_to settings events results (new_state_with settings room) nothing_yet records end runs)
+pub runs_judged : (settings : CoreSettings) (options : CoreOptions) (events : List Event) (results : List StepResult) (records : List Record) (end : Option State)
+    → Runs settings (new_state_with settings options) nothing_yet events results records end → IsJudgedRight records
+runs_judged settings options events results records end runs = right_judged records end (runs_to settings events results (new_state_with settings options) nothing_yet records end runs)
 
 -- ---- runs join
 
-pub right_begins : (settings : CoreSettings) (room : ℕ) → RunsTo [] nothing_yet (Some (new_state_with settings room))
-right_begins settings room = let agrees = new_agrees settings room in stays_to [] (new_state_with settings room) nothing_yet (Some (new_state_with settings room)) refl agrees agrees
+pub right_begins : (settings : CoreSettings) (options : CoreOptions) → RunsTo [] nothing_yet (Some (new_state_with settings options))
+right_begins settings options = let agrees = new_agrees settings options in stays_to [] (new_state_with settings options) nothing_yet (Some (new_state_with settings options)) refl agrees agrees
 
 pub right_joins : (h : History) (records more : List Record) (mid end : Option State) → (to : RunsTo records h mid) → RunsTo more to.later end → RunsTo (records ++ more) h end
 right_joins h records more mid end to onward = record {
@@ -388,11 +389,11 @@ module _ (settings : CoreSettings) (good : AreGood settings) (laws : ForwardLaws
   steps_run (event ∷ events) (Err Failed ∷ results) s h end a steps le = absurd steps
 
   -- where steps have led a new cache, each forward can end
-  pub steps_ready : (room : ℕ) (events : List Event) (results : List StepResult) (s : State) → Steps settings (new_state_with settings room) events results (Some s)
+  pub steps_ready : (options : CoreOptions) (events : List Event) (results : List StepResult) (s : State) → Steps settings (new_state_with settings options) events results (Some s)
       → length (records_given results) ≤ greatest_number → IsReady s
-  steps_ready room events results s steps le =
-      let runs = steps_run events results (new_state_with settings room) nothing_yet (Some s) (new_agrees settings room) steps (omega arith) in
-      let to = runs_to settings events results (new_state_with settings room) nothing_yet (records_given results) (Some s) runs in
+  steps_ready options events results s steps le =
+      let runs = steps_run events results (new_state_with settings options) nothing_yet (Some s) (new_agrees settings options) steps (omega arith) in
+      let to = runs_to settings events results (new_state_with settings options) nothing_yet (records_given results) (Some s) runs in
       agreement_ready s to.later to.agrees
 
 -- ---- a run is steps

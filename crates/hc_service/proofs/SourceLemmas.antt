@@ -26,15 +26,16 @@ use Rattle.hc_history.proofs.StateLemmas.{place_of, earlier_at}
 use Rattle.hc_head.proofs.SameTargetLemmas.{same_target_itself}
 use Rattle.hc_store.specs.declared.putting.Put.{Put}
 use Rattle.hc_store.specs.declared.putting.Put.TheVariants as put
-use Rattle.hc_store.specs.Entries.{Holdings, Entries, variants_of}
+use Rattle.hc_store.specs.Entries.{AllHeld, Holdings, Entries, variants_of}
 use Rattle.hc_store.specs.Calls.{Puts, Freshens, invalidated}
 use Rattle.hc_store.specs.Changes.{without, Validation, after_validation, is_validated, renewed}
 use Rattle.hc_service.specs.declared.open.OpenForward.{OpenForward}
 use Rattle.hc_service.specs.Choices.{OnTest, Finds, PutsResponse, Stores, may_update, validation_by}
 use Rattle.hc_service.specs.Answers.{Renews}
-use Rattle.hc_service.specs.Agreement.{AllHeld, HasSource}
+use Rattle.hc_service.specs.Agreement.{HasSource}
 use Rattle.hc_service.specs.Laws.{is_response, recorded_forward, HasSources}
-use Rattle.hc_service.proofs.StoreLemmas.{all_weaken, choose_held, put_held, distinct_choose, distinct_put, distinct_without, distinct_freshen, without_others, variants_held, held_weaken, left_held, freshen_held}
+use Rattle.hc_store.proofs.HeldLemmas.{all_weaken, choose_held, put_held, variants_held, held_weaken, left_held, freshen_held}
+use Rattle.hc_service.proofs.StoreLemmas.{distinct_choose, distinct_put, distinct_without, distinct_freshen, without_others}
 
 -- which of two it is
 pub on_test : (b : Bool) (P Q : Type 0) → OnTest b P Q → ((b ≡ true) × P) ⊎ ((b ≡ false) × Q)
@@ -184,7 +185,7 @@ module _ (since : Target → ℕ) (items : List Item) (number moment : ℕ) (res
             (without_others (HasSource since items) forward.target old.entries h.keys h.sources))
             (all_weaken _ (λ variant. HasSource since (OriginResponse number moment response ∷ items) forward.target (after_validation v variant))
             (λ variant p. freshens_one variant (get_invalidates_none forward response.head may) (after_validation v variant) refl p.0) f.left
-            (left_held (HasSource since items forward.target) v (variants_of forward.target old.entries) f.left (variants_held (HasSource since items) forward.target old.entries h.sources) f.leaves));
+            (left_held (HasSource since items forward.target) old.keeps_cookies v (variants_of forward.target old.entries) f.left (variants_held (HasSource since items) forward.target old.entries h.sources) f.leaves));
       })
     where
       v : Validation
@@ -251,5 +252,6 @@ module _ (since : Target → ℕ) (items : List Item) (number moment : ℕ) (res
             keys = distinct_put old.keys old.bytes forward.target _ old.entries h.keys;
             sources = put_held (HasSource since (OriginResponse number moment response ∷ items)) old.keys old.bytes forward.target _ old.entries h.sources (begun_source behind may);
           })
-      by_answer may put.TooLarge p = subst (HasSources since (OriginResponse number moment response ∷ items)) (sym p.1) h
+      by_answer may put.SetsCookie p = subst (HasSources since (OriginResponse number moment response ∷ items)) (sym p.1) h
+      by_answer may put.TooLarge p = subst (HasSources since (OriginResponse number moment response ∷ items)) (sym p.2) h
       by_answer may put.NoMemory p = subst (HasSources since (OriginResponse number moment response ∷ items)) (sym p.2) h

@@ -60,7 +60,7 @@ use Rattle.hc_service.proofs.RecordLemmas.{one_more_is, ask_counted, send_counte
 use Rattle.hc_service.proofs.ReceivedLemmas.{received_ask, received_answer}
 use Rattle.hc_service.proofs.NameLemmas.{cache_name, collapsed_writable}
 use Rattle.hc_service.proofs.RightLemmas.{shared_right}
-use Rattle.hc_service.proofs.StoreLemmas.{chosen_held}
+use Rattle.hc_store.proofs.HeldLemmas.{chosen_held}
 use Rattle.hc_service.proofs.WaitingLemmas.{IsElsewhere, since_joined, joined_sources, waiting_item, waiting_answered, waiting_ended, waiting_sent, waiting_received, waiting_opened, waiting_joined}
 use Rattle.hc_service.proofs.SourceLemmas.{on_test, renewed_sources}
 use Rattle.hc_service.proofs.EntryLemmas.{IsFit, collapsed_fit, renewed_can_reply, sound_parts, all_both}

@@ -12,14 +12,14 @@ use Rattle.hc_head.specs.declared.head.RequestHead.{RequestHead}
 use Rattle.hc_transcript.specs.Items.{Item, ClientRequest, OriginRequest, OriginResponse, OriginFailure, ClientReply, Exchange}
 use Rattle.hc_transcript.specs.History.{exchange_of, next_position}
 use Rattle.hc_update.specs.declared.stored.Stored.{Stored}
-use Rattle.hc_store.specs.Entries.{Entries, Holdings, knows}
+use Rattle.hc_store.specs.Entries.{AllHeld, Entries, Holdings, knows}
 use Rattle.hc_service.specs.declared.open.OpenExchange.{OpenExchange}
 use Rattle.hc_service.specs.State.{Table, Awaited, exchange_for}
 use Rattle.hc_service.specs.Joining.{is_joinable}
-use Rattle.hc_service.specs.Agreement.{AllHeld, AreWaiting, HasSource}
+use Rattle.hc_service.specs.Agreement.{AreWaiting, HasSource}
 use Rattle.hc_service.specs.Laws.{HasSources}
 use Rattle.hc_service.proofs.LinkLemmas.{none_some, one_of}
-use Rattle.hc_service.proofs.StoreLemmas.{all_weaken}
+use Rattle.hc_store.proofs.HeldLemmas.{all_weaken}
 use Rattle.hc_service.proofs.TableLemmas.{was_put, was_left}
 
 -- an item that opens or closes no exchange that is open

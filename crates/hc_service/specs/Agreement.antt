@@ -1,7 +1,7 @@
 -- What a cache has to do with what has happened so far, which it doesn't keep.
 use Rattle.std.specs.Prelude.{◌≡◌, ℕ, zero, suc, ◌<◌, ◌≤◌, ◌==◌, true, false, List, [], length, drop, Option, Some, None, option_map, codes}
 use Rattle.std.specs.FinMap.{get, len}
-use Rattle.std.specs.List.{AllByRecursion, IsDistinct}
+use Rattle.std.specs.List.{IsDistinct}
 use Rattle.std.specs.Map.{keys_of}
 use Rattle.std.specs.Option.{IsSome}
 use Rattle.hc_fields.specs.declared.fields.Field.{Field}
@@ -25,7 +25,7 @@ use Rattle.hc_transcript.specs.History.{exchange_of, forward_of, cause_of, last_
 use Rattle.hc_transcript.specs.Transcript.{AreReadAs}
 use Rattle.hc_history.specs.States.{state_at}
 use Rattle.hc_links.specs.Requests.{IsRequest}
-use Rattle.hc_store.specs.Entries.{Entries}
+use Rattle.hc_store.specs.Entries.{AllHeld}
 use Rattle.hc_service.specs.declared.cases.Cause.{Cause}
 use Rattle.hc_service.specs.declared.numbers.Numbers.{Numbers}
 use Rattle.hc_service.specs.declared.open.ForwardKind.{ForwardKind}
@@ -65,10 +65,6 @@ pub record AreCounted (n : Numbers) (h : History) : Type 0 where
   pub in_time : n.moment ≤ greatest_moment
 
 -- ---- 2: entries
-
--- all that is held of a target is so
-abbrev pub AllHeld : (Target → Stored → Type 0) → Entries → Type 0
-AllHeld P entries = AllByRecursion (λ entry. AllByRecursion (P entry.0) entry.1) entries
 
 -- it is a response of that target that may be stored, as the records have left it, and is valid; and it lies behind the position that is told of the target
 pub record HasSource (since : Target → ℕ) (items : List Item) (target : Target) (stored : Stored) : Type 0 where

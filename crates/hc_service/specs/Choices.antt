@@ -33,6 +33,7 @@ validated_by target asked position store = chosen_validated asked position (vari
 -- whether a response was put
 abbrev pub is_put : Put → Bool
 is_put put.Stored = true
+is_put put.SetsCookie = false
 is_put put.TooLarge = false
 is_put put.NoMemory = false
 

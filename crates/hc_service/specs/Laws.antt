@@ -17,10 +17,10 @@ use Rattle.hc_rules.specs.Laws.{IsForwardable}
 use Rattle.hc_transcript.specs.declared.record.Record.{Record}
 use Rattle.hc_transcript.specs.Items.{Item, OriginResponse, Forward}
 use Rattle.hc_transcript.specs.Limits.{greatest_number}
-use Rattle.hc_store.specs.Entries.{Holdings}
+use Rattle.hc_store.specs.Entries.{AllHeld, Holdings, sets_cookie}
 use Rattle.hc_service.specs.declared.open.OpenForward.{OpenForward}
 use Rattle.hc_events.specs.declared.Happening.{Happening}
-use Rattle.hc_service.specs.Agreement.{Agrees, AllHeld, HasSource, History, IsConsistent}
+use Rattle.hc_service.specs.Agreement.{Agrees, HasSource, History, IsConsistent}
 use Rattle.hc_service.specs.declared.action.Action.{Action}
 use Rattle.hc_service.specs.Runs.{GoesOn, GoesOnBy, Records, client_octets_with, origin_octets_with}
 use Rattle.hc_service.specs.Serves.{Turn}
@@ -39,6 +39,11 @@ recorded_forward forward = record { moment = forward.moment; request = forward.r
 pub record HasSources (since : Target → ℕ) (items : List Item) (store : Holdings) : Type 0 where
   pub keys : IsDistinct same_target (keys_of store.entries)
   pub sources : AllHeld (HasSource since items) store.entries
+
+-- the store keeps no responses that set a cookie, and holds none
+pub record HoldsNoCookie (store : Holdings) : Type 0 where
+  pub keeps_none : store.keeps_cookies ≡ false
+  pub holds_none : AllHeld (λ target stored. sets_cookie stored ≡ false) store.entries
 
 -- an answer of the origin as it was received: its lines are few and plain and frame no body, its body is within the limit, and none where it ends with its head
 pub record IsReceivedAnswer (to_head : Bool) (response : Message ResponseHead) : Type 0 where

@@ -11,6 +11,7 @@ use Rattle.hc_service.specs.declared.open.OpenForward.{OpenForward}
 use Rattle.hc_service.specs.declared.open.Purpose.{Purpose}
 use Rattle.hc_service.specs.declared.open.Purpose.TheVariants as purpose
 use Rattle.hc_service.specs.declared.settings.CoreSettings.{CoreSettings}
+use Rattle.hc_service.specs.declared.settings.CoreOptions.{CoreOptions}
 use Rattle.hc_service.specs.Numbers.{no_numbers}
 
 -- what is known by number
@@ -65,24 +66,24 @@ open_now s = record { exchanges = s.exchanges; forwards = s.forwards }
 abbrev pub awaits_reply : ℕ → State → Bool
 awaits_reply c s = is_some (option_and_then (λ (k : Connection). k.exchange) (get s.connections c))
 
--- an empty store of so many keys and octets
-abbrev pub empty_store : CoreSettings → Holdings
-empty_store settings = record { entries = []; keys = settings.keys; bytes = settings.bytes }
+-- an empty store of so many keys and octets, which keeps responses that set a cookie, or doesn't
+abbrev pub empty_store : CoreSettings → Bool → Holdings
+empty_store settings keeps_cookies = record { entries = []; keys = settings.keys; bytes = settings.bytes; keeps_cookies = keeps_cookies }
 
--- a cache to which nothing has happened, with room for so many connections
-abbrev pub new_state_with : CoreSettings → ℕ → State
-new_state_with settings room = record {
-  numbers = no_numbers room;
+-- a cache to which nothing has happened, with those options
+abbrev pub new_state_with : CoreSettings → CoreOptions → State
+new_state_with settings options = record {
+  numbers = no_numbers options.connections;
   connections = empty;
   exchanges = empty;
   forwards = empty;
-  store = empty_store settings;
+  store = empty_store settings options.keeps_cookies;
 }
 
--- for how many connections there is room where nothing else is said
-abbrev pub usual_room : ℕ
-usual_room = 1024
+-- the options where nothing else is said: room for 1,024 connections, and responses that set a cookie are stored
+abbrev pub usual_options : CoreOptions
+usual_options = record { connections = 1024; keeps_cookies = true }
 
--- a cache to which nothing has happened, with that room
+-- a cache to which nothing has happened, with those
 abbrev pub new_state : CoreSettings → State
-new_state settings = new_state_with settings usual_room
+new_state settings = new_state_with settings usual_options

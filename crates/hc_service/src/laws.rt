@@ -3,6 +3,7 @@
 ghost use Rattle.std.specs.Prelude.{◌≡◌, ℕ, Bool, ◌+◌, ◌≤◌, ◌<◌, true, false, List, [], ◌∷◌, ◌++◌, drop, length, Option, Some, None, codes};
 ghost use Rattle.hc_fields.specs.declared.fields.Field.{Field};
 ghost use Rattle.hc_fields.specs.Numbers.{end_of_moments};
+ghost use Rattle.hc_fields.specs.Values.{values_of};
 ghost use Rattle.hc_head.specs.declared.head.RequestHead.{RequestHead};
 ghost use Rattle.hc_head.specs.declared.head.ResponseHead.{ResponseHead};
 ghost use Rattle.hc_head.specs.declared.head.Target.{Target};
@@ -19,31 +20,33 @@ ghost use Rattle.hc_transcript.specs.Records.{told as cause_told};
 ghost use Rattle.hc_transcript.specs.Written.{IsWritableAnswer, IsWritableAsk};
 ghost use Rattle.hc_history.specs.Right.{IsRight};
 ghost use Rattle.hc_head.specs.Statuses.{is_error_status};
+ghost use Rattle.hc_status.specs.declared.cache_status.Handling.{Handling};
 ghost use Rattle.hc_store.specs.Calls.{Freshens};
 ghost use Rattle.hc_service.specs.declared.numbers.Numbers.{Numbers};
 ghost use Rattle.hc_service.specs.Numbers.{asked, is_later, noted, one_more, sent};
 ghost use Rattle.hc_service.specs.Sending.{recorded_format, failure_record, forward_record, records_of, reply_record, request_record, response_record};
 ghost use Rattle.hc_store.specs.Choosing.{is_selected, is_selected_validated};
 ghost use Rattle.hc_links.specs.Requests.{IsRequest};
-ghost use Rattle.hc_store.specs.Entries.{Holdings};
+ghost use Rattle.hc_store.specs.Entries.{AllHeld, Holdings, sets_cookie};
 ghost use Rattle.hc_service.specs.declared.cases.Cause.{Cause};
 ghost use Rattle.hc_service.specs.declared.open.OpenForward.{OpenForward};
 ghost use Rattle.hc_service.specs.Answers.{Renews};
 ghost use Rattle.hc_service.specs.Choices.{Finds, Stores, may_update, validation_by};
-ghost use Rattle.hc_service.specs.Laws.{HasSources, IsCountedOn, IsReceivedAnswer, IsReceivedAsk, IsToldStatus, is_response, recorded_forward, with_record, KeepsAgreement, KeepsAll, KeepsOn};
+ghost use Rattle.hc_service.specs.Laws.{HasSources, HoldsNoCookie, IsCountedOn, IsReceivedAnswer, IsReceivedAsk, IsToldStatus, is_response, recorded_forward, with_record, KeepsAgreement, KeepsAll, KeepsOn};
 ghost use Rattle.hc_service.specs.declared.action.Action.{Action};
 ghost use Rattle.hc_service.specs.Serves.{Run, Serves, Takes, Turn};
 ghost use Rattle.hc_events.specs.declared.Event.{Event};
 ghost use Rattle.hc_transcript.specs.declared.record.Record.{Record};
 ghost use Rattle.hc_service.specs.declared.settings.CoreSettings.{CoreSettings};
+ghost use Rattle.hc_service.specs.declared.settings.CoreOptions.{CoreOptions};
 ghost use Rattle.std.specs.FinMap.{get, insert, remove};
 ghost use Rattle.hc_rules.specs.Laws.{IsForwardable};
 ghost use Rattle.hc_service.specs.declared.open.OpenExchange.{OpenExchange};
 ghost use Rattle.hc_service.specs.State.{Awaited, Connection, State, Table, exchange_for, new_connection, new_state_with};
-ghost use Rattle.hc_service.specs.Agreement.{AllHeld, CanReply, AreAsked, AreCounted, AreReceived, AreLinked, Agrees, History, IsReadOf, IsReady, IsSound, IsConsistent};
+ghost use Rattle.hc_service.specs.Agreement.{CanReply, AreAsked, AreCounted, AreReceived, AreLinked, Agrees, History, IsReadOf, IsReady, IsSound, IsConsistent};
 ghost use Rattle.hc_service.specs.Runs.{EachLeads, Runs, RunsOn, RunsTo, nothing_yet, records_given, IsJudgedRight, StepResult, Steps, strict, with_octets};
 ghost use Rattle.hc_service.specs.Asking.{allows_age, asks_for_fresh, is_answered_by_store};
-ghost use Rattle.hc_service.specs.Replying.{Wanted, collapsed_reply, hit_reply, made_reply, passed_reply, replacing_reply};
+ghost use Rattle.hc_service.specs.Replying.{Wanted, collapsed_reply, entry_reply, hit_reply, made_reply, passed_reply, replacing_reply};
 ghost use Rattle.hc_history.specs.Usable.{age_at};
 ghost use Rattle.hc_service.specs.Joining.{may_be_shared, AllHaveForwards, FewWait, LeavesNobody, WaitForOpen};
 ghost use Rattle.hc_service.specs.Serving.{is_fresh, may_be_served, may_replace};
@@ -56,7 +59,7 @@ use hc_rules::{forwards_are_writable, forwards_keep_the_target};
 
 /// A new cache agrees with nothing having happened.
 pub fn new_cache_agrees()
-    ensures { (settings : CoreSettings) (room : ℕ) → Agrees (new_state_with settings room) nothing_yet }
+    ensures { (settings : CoreSettings) (options : CoreOptions) → Agrees (new_state_with settings options) nothing_yet }
 {}
 
 /// A run begins with a cache that agrees with what has happened.
@@ -358,8 +361,8 @@ pub fn runs_keep_agreement()
 
 /// The strictest audit says yes to what a new cache records.
 pub fn runs_are_judged_right()
-    ensures { (settings : CoreSettings) (room : ℕ) (events : List Event) (results : List StepResult) (records : List Record)
-        (end : Option State) → Runs settings (new_state_with settings room) nothing_yet events results records end
+    ensures { (settings : CoreSettings) (options : CoreOptions) (events : List Event) (results : List StepResult) (records : List Record)
+        (end : Option State) → Runs settings (new_state_with settings options) nothing_yet events results records end
         → IsJudgedRight records }
 {}
 
@@ -367,7 +370,7 @@ pub fn runs_are_judged_right()
 /// run, the records so far go on by those of the next, and each reply among them is right. So the strictest
 /// audit says yes to what a cache records, over however many runs, and its count is that of all its records.
 pub fn right_runs_join()
-    ensures begins { (settings : CoreSettings) (room : ℕ) → RunsTo [] nothing_yet (Some (new_state_with settings room)) }
+    ensures begins { (settings : CoreSettings) (options : CoreOptions) → RunsTo [] nothing_yet (Some (new_state_with settings options)) }
     ensures joins { (h : History) (records more : List Record) (mid end : Option State)
         → (to : RunsTo records h mid) → RunsTo more to.later end → RunsTo (records ++ more) h end }
     ensures counted { (records : List Record) (s : State) → RunsTo records nothing_yet (Some s)
@@ -395,8 +398,8 @@ pub fn steps_go_on()
 
 /// Where steps have led a new cache, each forward can end, as far as records can be numbered.
 pub fn steps_end_ready()
-    ensures { (settings : CoreSettings) → AreGood settings → (room : ℕ) (events : List Event) (results : List StepResult)
-        (s : State) → Steps settings (new_state_with settings room) events results (Some s)
+    ensures { (settings : CoreSettings) → AreGood settings → (options : CoreOptions) (events : List Event) (results : List StepResult)
+        (s : State) → Steps settings (new_state_with settings options) events results (Some s)
         → length (records_given results) ≤ greatest_number → IsReady s }
 {
     forwards_are_writable();
@@ -412,8 +415,8 @@ pub fn steps_end_ready()
 pub fn nobody_is_left_waiting()
     ensures event { (settings : CoreSettings) (event : Event) (s : State) (actions : List Action) (other : State)
         → WaitForOpen s → Serves settings event s actions other → WaitForOpen other }
-    ensures run { (settings : CoreSettings) (room : ℕ) (events : List Event) (results : List StepResult) (s : State)
-        → Steps settings (new_state_with settings room) events results (Some s) → WaitForOpen s }
+    ensures run { (settings : CoreSettings) (options : CoreOptions) (events : List Event) (results : List StepResult) (s : State)
+        → Steps settings (new_state_with settings options) events results (Some s) → WaitForOpen s }
     ensures served { (settings : CoreSettings) (event : Event) (s : State) (actions : List Action) (other : State)
         (h : History) → Agrees s h → AllHaveForwards s → Serves settings event s actions other
         → other.numbers.records ≤ greatest_number → LeavesNobody s other }
@@ -422,13 +425,13 @@ pub fn nobody_is_left_waiting()
         (h : History) (records : List Record) → AllHaveForwards s
         → Runs settings s h events results records (Some other) → LeavesNobody s other }
     // Where a run has led a new cache, and at each event on its way.
-    ensures runs { (settings : CoreSettings) (room : ℕ) (events : List Event) (results : List StepResult)
+    ensures runs { (settings : CoreSettings) (options : CoreOptions) (events : List Event) (results : List StepResult)
         (records : List Record) (s : State)
-        → Runs settings (new_state_with settings room) nothing_yet events results records (Some s) → AllHaveForwards s }
-    ensures along { (settings : CoreSettings) (room : ℕ) (events : List Event) (results : List StepResult)
+        → Runs settings (new_state_with settings options) nothing_yet events results records (Some s) → AllHaveForwards s }
+    ensures along { (settings : CoreSettings) (options : CoreOptions) (events : List Event) (results : List StepResult)
         (records : List Record) (end : Option State)
-        → (runs : Runs settings (new_state_with settings room) nothing_yet events results records end)
-        → EachLeads LeavesNobody settings (new_state_with settings room) nothing_yet events results records end runs }
+        → (runs : Runs settings (new_state_with settings options) nothing_yet events results records end)
+        → EachLeads LeavesNobody settings (new_state_with settings options) nothing_yet events results records end runs }
 {}
 
 /// For each forward no more requests wait than may, behind each event and wherever steps, or a run, have led a
@@ -436,11 +439,23 @@ pub fn nobody_is_left_waiting()
 pub fn few_wait_for_each_forward()
     ensures event { (settings : CoreSettings) (event : Event) (s : State) (actions : List Action) (other : State)
         → FewWait s → Serves settings event s actions other → FewWait other }
-    ensures run { (settings : CoreSettings) (room : ℕ) (events : List Event) (results : List StepResult) (s : State)
-        → Steps settings (new_state_with settings room) events results (Some s) → FewWait s }
-    ensures runs { (settings : CoreSettings) (room : ℕ) (events : List Event) (results : List StepResult)
+    ensures run { (settings : CoreSettings) (options : CoreOptions) (events : List Event) (results : List StepResult) (s : State)
+        → Steps settings (new_state_with settings options) events results (Some s) → FewWait s }
+    ensures runs { (settings : CoreSettings) (options : CoreOptions) (events : List Event) (results : List StepResult)
         (records : List Record) (s : State)
-        → Runs settings (new_state_with settings room) nothing_yet events results records (Some s) → FewWait s }
+        → Runs settings (new_state_with settings options) nothing_yet events results records (Some s) → FewWait s }
+{}
+
+/// A cache that keeps no responses that set a cookie never holds one, and no reply from what it holds sets one: be it a
+/// hit, or once it was validated, or in place of an error, or for a request that waited.
+pub fn no_cookie_comes_from_the_store()
+    ensures event { (settings : CoreSettings) (event : Event) (s : State) (actions : List Action) (other : State)
+        → HoldsNoCookie s.store → Serves settings event s actions other → HoldsNoCookie other.store }
+    ensures run { (settings : CoreSettings) (options : CoreOptions) (events : List Event) (results : List StepResult) (s : State)
+        → options.keeps_cookies ≡ false → Steps settings (new_state_with settings options) events results (Some s)
+        → HoldsNoCookie s.store }
+    ensures replies { (wanted : Wanted) (handling : Handling) (stored : Stored) → sets_cookie stored ≡ false
+        → values_of (codes "set-cookie") (entry_reply wanted handling stored).head.fields ≡ [] }
 {}
 
 /// What is open behind an event is what was, but for what the event and the cache's actions opened and closed, in

@@ -25,7 +25,31 @@ const MOST_KEYS: usize = 65_536;
 const MOST_ROOM: usize = 65_536;
 
 /// For how many connections a cache has room where nothing else is said.
-pub const USUAL_ROOM: usize = 1_024;
+const USUAL_ROOM: usize = 1_024;
+
+/// What may be asked of a cache beside its settings.
+#[derive(Clone, Copy)]
+pub struct CoreOptions {
+    /// For how many connections that are open it has room, from 1 to 65,536.
+    pub connections: usize,
+    /// Whether it stores responses that set a cookie, by a Set-Cookie line, where they may be stored.
+    pub keeps_cookies: bool,
+}
+
+impl CoreOptions {
+    ghost use Rattle.std.specs.Prelude.{◌≡◌};
+    ghost use Rattle.hc_service.specs.State.{usual_options};
+
+    /// Those where nothing else is said.
+    pub fn usual() -> Self
+        ensures { result ≡ usual_options }
+    {
+        CoreOptions {
+            connections: USUAL_ROOM,
+            keeps_cookies: true,
+        }
+    }
+}
 
 fn is_name_octet(octet: u8) -> bool
     ensures { result ≡ is_name_octet octet }

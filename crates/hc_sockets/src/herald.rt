@@ -1,9 +1,10 @@
 //! What is amiss is told on standard error.
 
+use crate::health::Health;
 use crate::recorded::{RecordEnd, Recorded};
 use hc_crowd::{Crowd, Failures, World};
+use hc_drive::Watcher;
 use hc_notices::{Notice, Voice};
-use hc_serve::Watcher;
 use std::io::Write;
 
 /// So many milliseconds lie between two lines about failures of a kind at least.
@@ -13,8 +14,12 @@ const PAUSE: u64 = 1_000;
 #[derive(Drop)]
 pub(crate) struct Herald<'a, E: Write> {
     voice: Voice<'a, E>,
+    health: &'a Health,
     /// The failures that were told.
     told: Failures,
+    /// How many failed polls were told, and the millisecond before which nothing more is said of them.
+    told_polls: u64,
+    polls_due: u64,
     /// Whether the wall clock was behind when it was last looked at.
     was_behind: bool,
     /// Nothing is said of failures before that millisecond.
@@ -27,13 +32,16 @@ impl<'a, E: Write> Herald<'a, E> {
     ghost use Rattle.std.specs.Prelude.{◌≡◌};
     ghost use Rattle.hc_notices.specs.Voices.{GoesOn};
 
-    /// By that voice. Of so many failures nothing is said.
-    pub(crate) fn new(voice: Voice<'a, E>, told: Failures) -> Self
+    /// By that voice, of the system that has this health. Of so many failures nothing is said.
+    pub(crate) fn new(voice: Voice<'a, E>, health: &'a Health, told: Failures) -> Self
         ensures { result.voice ≡ voice.entry }
     {
         Herald {
             voice,
+            health,
             told,
+            told_polls: 0,
+            polls_due: 0,
             was_behind: false,
             due: 0,
             told_end: false,
@@ -54,12 +62,31 @@ impl<'a, E: Write> Herald<'a, E> {
         self.voice.say_if(is_due, notice);
     }
 
-    /// Says what is new by that millisecond: so many links have failed, and the wall clock is behind or isn't.
+    /// Says what is new by that millisecond: so many links have failed, and the wall clock is behind or isn't. Where the
+    /// system lets nobody be served any more, links fail for that alone, and nothing is said of them.
     fn look_at(&mut self, tick: u64, failures: Failures, is_behind: bool)
         ensures { GoesOn E.contents self.old.voice self.new.voice }
     {
+        self.look_at_polls(tick);
+        if self.health.ends() {
+            return;
+        }
         self.look_at_clock(is_behind);
         self.look_at_failures(tick, failures);
+    }
+
+    /// Says how many polls have failed since that was told last, if its time has come.
+    fn look_at_polls(&mut self, tick: u64)
+        ensures { GoesOn E.contents self.old.voice self.new.voice }
+    {
+        let failed = self.health.failed_polls();
+        let unpolled = failed.saturating_sub(self.told_polls);
+        if (unpolled == 0) | (tick < self.polls_due) {
+            return;
+        }
+        self.told_polls = failed;
+        self.polls_due = tick.saturating_add(PAUSE);
+        self.voice.say(Notice::Unpolled(unpolled));
     }
 
     /// Says that the wall clock is behind, if it wasn't before.

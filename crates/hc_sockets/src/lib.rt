@@ -4,9 +4,11 @@
 
 mod addresses;
 mod attempts;
+mod checks;
 mod claim;
 mod clock;
 mod fault;
+mod health;
 mod herald;
 mod listeners;
 mod listening;
@@ -14,15 +16,21 @@ mod open_files;
 mod origin;
 mod process;
 mod proxying;
+mod recordable;
 mod recorded;
 mod serving;
 mod signals;
 mod sockets;
 mod system_link;
 mod tokens;
+mod watched;
 mod wire;
 
 pub use claim::Claim;
 pub use fault::ServeFault;
+pub use health::Health;
 pub use proxying::{Proxy, RecordTo, serve_proxy};
+pub use recordable::Unrecordable;
+pub use recorded::{RecordEnd, Recorded};
 pub use serving::{Service, serve};
+pub use watched::{Opening, serve_links};

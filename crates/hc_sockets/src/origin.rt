@@ -1,7 +1,7 @@
 //! The origin behind its address.
 
 use crate::system_link::{Socket, SystemLink};
-use hc_connection::{LinkFailure, Origins};
+use hc_link_traits::{LinkFailure, Origins};
 use std::net::{Net, OpenStream, TcpStream};
 
 /// An origin that is connected to for each forward.

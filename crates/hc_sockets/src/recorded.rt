@@ -1,13 +1,13 @@
 //! Why a recording has ended while serving goes on.
 
 use crate::system_link::{Device, SystemLink};
-use hc_connection::{Buffered, Lapsing, Off, Silence};
+use hc_link_traits::{Buffered, Lapsing, Off, Silence};
 use std::io;
 use std::io::ErrorKind;
 
 /// Why a recording has ended while serving goes on.
 #[derive(Clone, Copy)]
-pub(crate) enum RecordEnd {
+pub enum RecordEnd {
     /// It couldn't be written on, for this reason.
     Failed(io::Error),
     /// It has as many octets as it may have.
@@ -15,7 +15,7 @@ pub(crate) enum RecordEnd {
 }
 
 /// A recording that may end while serving goes on.
-pub(crate) trait Recorded {
+pub trait Recorded {
     /// Why it has ended, if it has.
     fn end(&self) -> Option<RecordEnd>;
 }

@@ -9,8 +9,8 @@ use crate::fault::ServeFault;
 use crate::listening::Listening;
 use crate::origin::Origin;
 use crate::system_link::{Recording, SystemLink};
+use hc_drive::{ServingFault, serve_clients};
 use hc_machine::{Core, CoreFault};
-use hc_serve::{ServingFault, serve_clients};
 use hc_service::{CoreSettings, StepFault};
 use hc_transcript::Format;
 use std::collections::hash_map::RandomState;
@@ -54,7 +54,7 @@ pub struct Service<'a> {
 /// closed at once.
 ///
 /// No clause says so, since none can say what the system's sockets and files hold. What is recorded of the octets that
-/// links give and get is what `serve_clients` of hc_serve promises, and what it asks of the cache and of the file holds
+/// links give and get is what `serve_clients` of hc_drive promises, and what it asks of the cache and of the file holds
 /// here: the cache is new, and the file has the opening.
 pub fn serve<R>(rt: &R, service: Service<'_>, settings: CoreSettings) -> Result<(), ServeFault>
 where

@@ -6,7 +6,7 @@ ghost use Rattle.std.specs.Str.{trim};
 ghost use Rattle.std.specs.Str.Parse.{IsNumeral, digits_value, without_leading_plus};
 
 use crate::process::{behind_name, fill};
-use std::alloc::{AllocError, Global};
+use std::alloc::Global;
 use std::fs::File;
 use std::io;
 use std::io::{Read, Seek};
@@ -50,8 +50,7 @@ impl Masks {
 
 /// What is known of signals that ask the program to stop. They have to be blocked: one that isn't ends the program.
 pub(crate) struct Signals<F: Read + Seek> {
-    /// None, where it can't be read.
-    status: Option<F>,
+    status: F,
     text: Vec<u8>,
     /// Whether both were blocked at the start.
     heard: bool,
@@ -76,18 +75,16 @@ impl<F: Read + Seek + Drop> Drop for Signals<F> {
 }
 
 impl<F: Read + Seek + Drop> Signals<F> {
-    /// Opens what the system tells, and asks it for the first time.
-    pub(crate) fn new<R: Files<File = F>>(rt: &R, alloc: Global) -> Result<Self, AllocError> {
+    /// Opens what the system tells, and asks it for the first time. It fails where the system doesn't tell.
+    pub(crate) fn new<R: Files<File = F>>(rt: &R, alloc: Global) -> io::Result<Self> {
         let mut signals = Signals {
-            status: File::open(rt, STATUS).ok(),
             text: Vec::from_elem(alloc, 0, MOST)?,
+            status: File::open(rt, STATUS)?,
             heard: false,
             came: false,
             due: 0,
         };
-        if let Some(masks) = signals.masks() {
-            signals.heard = masks.block_stops();
-        }
+        signals.heard = signals.masks()?.block_stops();
         Ok(signals)
     }
 
@@ -110,19 +107,21 @@ impl<F: Read + Seek + Drop> Signals<F> {
             return false;
         }
         self.due = tick.saturating_add(INTERVAL);
-        if let Some(masks) = self.masks() {
+        if let Ok(masks) = self.masks() {
             self.came = masks.ask_to_stop();
         }
         self.came
     }
 
     /// What the system tells now.
-    fn masks(&mut self) -> Option<Masks>
+    fn masks(&mut self) -> io::Result<Masks>
         ensures { self.new.came ≡ self.old.came }
     {
-        let file = self.status.as_mut()?;
-        let count = read_anew(file, self.text.as_mut_slice()).ok()?;
-        masks_of(&self.text.as_slice()[..count])
+        let count = read_anew(&mut self.status, self.text.as_mut_slice())?;
+        match masks_of(&self.text.as_slice()[..count]) {
+            Some(masks) => Ok(masks),
+            None => Err(io::Error::other("it tells of no signals")),
+        }
     }
 }
 

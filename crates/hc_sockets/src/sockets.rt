@@ -5,6 +5,7 @@ ghost use Rattle.mio.specs.Event.{is_error, is_read_closed, is_readable, is_writ
 
 use crate::addresses::addresses_of;
 use crate::attempts::{Attempts, Stage};
+use crate::health::Health;
 use crate::listeners::Listeners;
 use crate::signals::Signals;
 use crate::tokens::Source;
@@ -37,6 +38,8 @@ pub(crate) enum SocketsFault {
     Listen(io::Error),
     /// The origin has no address, for this reason.
     Origin(io::Error),
+    /// The system doesn't tell which signals are pending, for this reason.
+    Signals(io::Error),
 }
 
 impl From<AllocError> for SocketsFault {
@@ -48,6 +51,8 @@ impl From<AllocError> for SocketsFault {
 /// The system's sockets, clocks and signals. What is ready is asked of all sockets at once.
 pub(crate) struct Sockets<'a, R: Net + Files + Clock> {
     rt: &'a R,
+    /// Where failures of the system are noted.
+    health: &'a Health,
     poll: Poll,
     /// What became ready.
     events: Events,
@@ -64,6 +69,7 @@ impl<'a, R: Net + Files + Clock> Drop for Sockets<'a, R> {
     fn drop(self) {
         let Sockets {
             rt: _,
+            health: _,
             poll,
             events,
             told: _,
@@ -83,19 +89,25 @@ impl<'a, R: Net + Files + Clock> Drop for Sockets<'a, R> {
 
 impl<'a, R: Net + Files + Clock + AllocGlobal> Sockets<'a, R> {
     /// Clients can connect to each address of the host and port `listen`. The name of the origin is resolved now, once.
-    pub(crate) fn new(rt: &'a R, listen: &str, origin: &str) -> Result<Self, SocketsFault> {
+    pub(crate) fn new(
+        rt: &'a R,
+        health: &'a Health,
+        listen: &str,
+        origin: &str,
+    ) -> Result<Self, SocketsFault> {
         let origin = addresses_of(rt, origin).map_err(origin_fault)?;
         let poll = Poll::new(rt).map_err(listen_fault)?;
         let listeners = Listeners::bind(rt, &poll, listen).map_err(listen_fault)?;
         Ok(Sockets {
             rt,
+            health,
             poll,
             events: Events::with_capacity(rt.alloc(), MOST_EVENTS)?,
             told: 0,
             listeners,
             origin,
             attempts: Attempts::new(rt.alloc())?,
-            signals: Signals::new(rt, rt.alloc())?,
+            signals: Signals::new(rt, rt.alloc()).map_err(signals_fault)?,
         })
     }
 }
@@ -142,11 +154,13 @@ impl<'a, R: Net + Files + Clock> Sockets<'a, R> {
         }
     }
 
-    /// Begins to connect to the first address of the origin, from that place on, for which that is possible.
-    fn begin_connecting(&self, first: usize) -> Option<TcpStream> {
-        'addresses: for address in self.origin.as_slice().get(first..)? {
-            if let Ok(stream) = TcpStream::connect(self.rt, *address) {
-                return Some(stream);
+    /// Begins to connect to the first address of the origin, from that place on, for which that is possible. Returns its
+    /// place, too.
+    fn begin_connecting(&self, first: usize) -> Option<(TcpStream, usize)> {
+        'addresses: for place in first..self.origin.len() {
+            let address = *self.origin.get(place)?;
+            if let Ok(stream) = TcpStream::connect(self.rt, address) {
+                return Some((stream, place));
             }
         }
         None
@@ -174,9 +188,14 @@ impl<'a, R: Net + Files + Clock> World for Sockets<'a, R> {
             return;
         }
         self.told = 0;
+        // Where serving ends, nothing is waited for any more.
+        if self.health.ends() {
+            return;
+        }
         let most = Duration::from_millis(most.min(LONGEST_WAIT));
         // Where the system refuses it, nothing is ready.
-        let _ = self.poll.poll(&mut self.events, Some(most));
+        let polled = self.poll.poll(&mut self.events, Some(most));
+        self.health.note_poll(polled);
     }
 
     fn ready(&mut self) -> Option<Ready> {
@@ -208,9 +227,10 @@ impl<'a, R: Net + Files + Clock> World for Sockets<'a, R> {
     }
 
     fn connect(&mut self, forward: u64, attempt: u32) -> Option<Wire> {
-        let stream = self.begin_connecting(attempt as usize)?;
+        let first = self.attempts.first_address(forward, attempt);
+        let (stream, address) = self.begin_connecting(first)?;
         let wire = self.wired(stream, Source::Origin(forward, attempt))?;
-        self.attempts.begin(forward, attempt);
+        self.attempts.begin(forward, attempt, address);
         Some(wire)
     }
 
@@ -219,14 +239,21 @@ impl<'a, R: Net + Files + Clock> World for Sockets<'a, R> {
     }
 
     fn monotonic(&self) -> Duration {
-        self.rt.monotonic().unwrap_or(Duration::ZERO)
+        self.health.note_clock(self.rt.monotonic())
     }
 
     fn tick(&self) -> u64 {
+        // Where serving ends, nothing is waited for any more.
+        if self.health.ends() {
+            return u64::MAX;
+        }
         u64::try_from(self.monotonic().as_millis()).unwrap_or(u64::MAX)
     }
 
     fn stops(&mut self) -> bool {
+        if self.health.ends() {
+            return true;
+        }
         let tick = self.tick();
         self.signals.have_come(tick)
     }
@@ -268,4 +295,12 @@ fn origin_fault(error: io::Error) -> SocketsFault {
         return SocketsFault::Memory;
     }
     SocketsFault::Origin(error)
+}
+
+/// Why stops can't be seen.
+fn signals_fault(error: io::Error) -> SocketsFault {
+    if error.kind() == ErrorKind::OutOfMemory {
+        return SocketsFault::Memory;
+    }
+    SocketsFault::Signals(error)
 }

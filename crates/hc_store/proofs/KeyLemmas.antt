@@ -214,16 +214,16 @@ found_few target (e ∷ es) all is = by_test (same_target target e.0) refl (foun
 
 -- ---- freshening
 
-pub leaves_lighter : (v : Validation) (old left : List Stored) → Leaves v old left → variants_weight left ≤ variants_weight old
-leaves_lighter v [] left is = omega (arith, ap variants_weight is)
-leaves_lighter v (x ∷ xs) left (inl goes) = omega (arith, sum_by-cons weight x xs, leaves_lighter v xs left goes.1)
-leaves_lighter v (x ∷ xs) left (inr stays) =
-    omega (arith, sum_by-cons weight x xs, sum_by-cons weight x stays.1, ap variants_weight stays.2, leaves_lighter v xs stays.1 stays.3)
+pub leaves_lighter : (keeps : Bool) (v : Validation) (old left : List Stored) → Leaves keeps v old left → variants_weight left ≤ variants_weight old
+leaves_lighter keeps v [] left is = omega (arith, ap variants_weight is)
+leaves_lighter keeps v (x ∷ xs) left (inl goes) = omega (arith, sum_by-cons weight x xs, leaves_lighter keeps v xs left goes.1)
+leaves_lighter keeps v (x ∷ xs) left (inr stays) =
+    omega (arith, sum_by-cons weight x xs, sum_by-cons weight x stays.1, ap variants_weight stays.2, leaves_lighter keeps v xs stays.1 stays.3)
 
-pub leaves_fewer : (v : Validation) (old left : List Stored) → Leaves v old left → length left ≤ length old
-leaves_fewer v [] left is = omega (arith, ap length is)
-leaves_fewer v (x ∷ xs) left (inl goes) = omega (arith, leaves_fewer v xs left goes.1)
-leaves_fewer v (x ∷ xs) left (inr stays) = omega (arith, ap length stays.2, leaves_fewer v xs stays.1 stays.3)
+pub leaves_fewer : (keeps : Bool) (v : Validation) (old left : List Stored) → Leaves keeps v old left → length left ≤ length old
+leaves_fewer keeps v [] left is = omega (arith, ap length is)
+leaves_fewer keeps v (x ∷ xs) left (inl goes) = omega (arith, leaves_fewer keeps v xs left goes.1)
+leaves_fewer keeps v (x ∷ xs) left (inr stays) = omega (arith, ap length stays.2, leaves_fewer keeps v xs stays.1 stays.3)
 
 or_false : (a b : Bool) → (a || b) ≡ false → (a ≡ false) × (b ≡ false)
 or_false false b none = (refl, none)
@@ -283,12 +283,12 @@ keyed_weighs target (v ∷ vs) others = entries_weight-cons (target, v ∷ vs) o
 
 -- ---- stores
 
-abbrev the_holdings : Entries → ℕ → ℕ → Holdings
-the_holdings entries keys bytes = record { entries = entries; keys = keys; bytes = bytes }
+abbrev the_holdings : Entries → ℕ → ℕ → Bool → Holdings
+the_holdings entries keys bytes keeps = record { entries = entries; keys = keys; bytes = bytes; keeps_cookies = keeps }
 
-pub holdings_are : (bytes : ℕ) {one other : Entries} {few many : ℕ} → one ≡ other → few ≡ many
-    → the_holdings one few bytes ≡ the_holdings other many bytes
-holdings_are bytes entries keys = λ i. the_holdings (entries i) (keys i) bytes
+pub holdings_are : (bytes : ℕ) (keeps : Bool) {one other : Entries} {few many : ℕ} → one ≡ other → few ≡ many
+    → the_holdings one few bytes keeps ≡ the_holdings other many bytes keeps
+holdings_are bytes keeps entries keys = λ i. the_holdings (entries i) (keys i) bytes keeps
 
 pub not_known : (target : Target) (es : Entries) → None ≡ lookup (same_target target) es → knows target es ≡ false
 not_known target es is = ap is_some (sym is)

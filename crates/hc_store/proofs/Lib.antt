@@ -4,5 +4,7 @@ pub mod AddLemmas
 pub mod FreshenLemmas
 pub mod TrimLemmas
 pub mod KeyLemmas
+pub mod HeldLemmas
 pub mod WithinLemmas
+pub mod CookieLemmas
 pub mod LawLemmas

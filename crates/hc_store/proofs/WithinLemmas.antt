@@ -1,19 +1,22 @@
 -- Each call keeps a store within its bounds.
-use Rattle.std.proofs.Common.{◌≡◌, ℕ, zero, suc, ◌+◌, ◌-◌, ◌<◌, ◌≤◌, Bool, true, false, cond, List, [], ◌∷◌, ◌++◌, length, map, take, Option, Some, None, refl, sym, ap, ◌∙◌, subst, arith, length-append, length-drop}
+use Rattle.std.proofs.Common.{◌≡◌, ℕ, zero, suc, ◌+◌, ◌-◌, ◌<◌, ◌≤◌, Bool, true, false, cond, ◌||◌, List, [], ◌∷◌, ◌++◌, length, map, take, Option, Some, None, refl, sym, ap, ◌∙◌, subst, arith, length-append, length-drop}
 use Rattle.std.specs.Prelude.{nat_le, unwrap_or, not, filter}
 use Rattle.std.specs.List.{AllByRecursion, list_any}
 use Rattle.std.specs.Map.{lookup, set_value}
+use Rattle.std.proofs.lemmas.Bool.{and_parts}
 use Rattle.std.proofs.lemmas.List.{length-take}
 use Rattle.lru.specs.LruCache.{promoted}
 use Rattle.hc_head.specs.declared.head.Target.{Target}
 use Rattle.hc_head.specs.Targets.{same_target}
 use Rattle.hc_update.specs.declared.stored.Stored.{Stored}
-use Rattle.hc_store.specs.Entries.{Entries, Holdings, IsWithin, HasFewVariants, variants_of, variants_weight, entries_weight, most_variants}
+use Rattle.hc_update.specs.Sizes.{fits}
+use Rattle.hc_store.specs.Entries.{AllHeld, Entries, Holdings, IsWithin, HasFewVariants, may_hold, variants_of, variants_weight, entries_weight, most_variants}
 use Rattle.hc_store.specs.Choosing.{is_selected}
-use Rattle.hc_store.specs.Changes.{Validation, Leaves, is_validated, after_validation, added, keyed, without, with_variants, first_keys, last_variants, last_ones, trimmed, after_choose, after_put, after_freshen, after_invalidate}
+use Rattle.hc_store.specs.Changes.{Validation, Leaves, is_validated, after_validation, may_become, may_stay, renewed, added, keyed, without, with_variants, first_keys, last_variants, last_ones, trimmed, after_choose, after_put, after_freshen, after_invalidate}
 use Rattle.hc_store.specs.Calls.{Freshens, holding}
 use Rattle.hc_store.specs.Trims.{kept_beside, room_beside}
 use Rattle.hc_store.proofs.TrimLemmas.{entries_weight-cons, settled_light, trimmed_is}
+use Rattle.hc_store.proofs.HeldLemmas.{all_weaken, choose_held, freshen_held, left_held, put_held, variants_held, without_held}
 use Rattle.hc_store.proofs.KeyLemmas.{Known, known, Unknown, unknown, not_known, found_few, leaves_lighter, leaves_fewer, one_freshened, with_weighs, keyed_weighs, cons_taken}
 
 -- ---- what holds of each entry
@@ -130,24 +133,30 @@ trimmed_few keys bytes target vs others some few all many =
       light = omega (arith, keyed_weighs target lv kept, settled_light bytes vs others);
     })
 
-few_within : (store : Holdings) (es : Entries) → IsWithin store → AreFew store.keys store.bytes es → IsWithin (holding es store)
-few_within store es within few = record {
+-- what a store holds of each response
+abbrev IsKept : Bool → Target → Stored → Type 0
+IsKept keeps target stored = may_hold keeps stored ≡ true
+
+few_within : (store : Holdings) (es : Entries) → IsWithin store → AreFew store.keys store.bytes es → AllHeld (IsKept store.keeps_cookies) es → IsWithin (holding es store)
+few_within store es within few kept = record {
   some_keys = within.some_keys;
   no_more_keys = within.no_more_keys;
   few_keys = few.few_keys;
   few_variants = few.few_variants;
   light = few.light;
+  kept = kept;
 }
 
 -- ---- each call
 
-pub empty_within : (keys bytes : ℕ) → 0 < keys → keys ≤ 65536 → IsWithin (record { entries = []; keys = keys; bytes = bytes })
-empty_within keys bytes some few = record {
+pub empty_within : (keys bytes : ℕ) (keeps : Bool) → 0 < keys → keys ≤ 65536 → IsWithin (record { entries = []; keys = keys; bytes = bytes; keeps_cookies = keeps })
+empty_within keys bytes keeps some few = record {
   some_keys = some;
   no_more_keys = few;
   few_keys = omega arith;
   few_variants = tt;
   light = omega arith;
+  kept = tt;
 }
 
 few_added : (stored : Stored) (vs : List Stored) → (0 < length (added stored vs)) × (length (added stored vs) ≤ most_variants)
@@ -157,9 +166,9 @@ few_added stored vs =
       omega (arith, length-append (last_ones 15 left) (stored ∷ []), length-drop (length left - 15) left),
     )
 
-pub put_within : (store : Holdings) (target : Target) (stored : Stored) → IsWithin store
+pub put_within : (store : Holdings) (target : Target) (stored : Stored) → may_hold store.keeps_cookies stored ≡ true → IsWithin store
     → IsWithin (holding (after_put store.keys store.bytes target stored store.entries) store)
-put_within store target stored within =
+put_within store target stored may within =
     let es = store.entries in
     let vs = added stored (variants_of target es) in
     let few = few_added stored (variants_of target es) in
@@ -170,13 +179,14 @@ put_within store target stored within =
     (trimmed_few store.keys store.bytes target vs others few.0 few.1
     (all_take HasFewVariants (store.keys - 1) (without target es) (all_without HasFewVariants target es within.few_variants))
     (omega (arith, within.some_keys, length-take (store.keys - 1) (without target es)))))
+    (put_held (IsKept store.keeps_cookies) store.keys store.bytes target stored es within.kept may)
 
 pub invalidate_within : (store : Holdings) (target : Target) → IsWithin store → IsWithin (holding (after_invalidate target store.entries) store)
 invalidate_within store target within = few_within store _ within (record {
   few_keys = omega (arith, within.few_keys, fewer_without target store.entries);
   few_variants = all_without HasFewVariants target store.entries within.few_variants;
   light = omega (arith, within.light, lighter_without target store.entries);
-})
+}) (without_held (IsKept store.keeps_cookies) target store.entries within.kept)
 
 -- a target by whether it is known
 by_lookup : {Q : Type 0} (target : Target) (es : Entries) (o : Option (List Stored)) → lookup (same_target target) es ≡ o
@@ -204,14 +214,14 @@ choose_within store target within =
       few_keys = omega (arith, parts.1, is.one_less, within.few_keys);
       few_variants = parts.0;
       light = omega (arith, choose_weighs target es, within.light);
-    }))
+    }) (choose_held (IsKept store.keeps_cookies) target es within.kept))
     (λ is.
     let same : after_choose target es ≡ es = ap (λ (vs : List Stored). keyed target vs ++ without target es) (no_variants target es is) ∙ is.others in
     few_within store _ within (subst (AreFew store.keys store.bytes) (sym same) (record {
       few_keys = within.few_keys;
       few_variants = within.few_variants;
       light = within.light;
-    })))
+    })) (choose_held (IsKept store.keeps_cookies) target es within.kept))
 
 -- choosing a key that is there
 pub chosen_first : (target : Target) (es : Entries) (old : List Stored) → Known target es old → AllByRecursion HasFewVariants es
@@ -234,6 +244,7 @@ unknown_stays store target is =
       entries = sym (ap (λ (vs : List Stored). keyed target vs ++ without target store.entries) (no_variants target store.entries is) ∙ is.others) i;
       keys = store.keys;
       bytes = store.bytes;
+      keeps_cookies = store.keeps_cookies;
     }
 
 as_many : (v : Validation) (left : List Stored) → length (map (after_validation v) left) ≡ length left
@@ -253,6 +264,24 @@ set_few keys bytes target es old (v ∷ vs) is are few lighter = record {
   light = omega (arith, are.light, with_weighs target es old (v ∷ vs) is, is.weighs, lighter);
 }
 
+-- what stays may be held, as it becomes
+stays_kept : (keeps : Bool) (v : Validation) (variant : Stored) → (may_hold keeps variant ≡ true) × (may_stay keeps v variant ≡ true) → may_hold keeps (after_validation v variant) ≡ true
+stays_kept keeps v variant is = go (is_validated v variant) is.1
+  where
+    go : (b : Bool) → (not b || may_become keeps (renewed v variant)) ≡ true → may_hold keeps (cond b (renewed v variant) variant) ≡ true
+    go true stays = (and_parts (fits (renewed v variant)) (may_hold keeps (renewed v variant)) stays).1
+    go false stays = is.0
+
+freshened_kept : (v : Validation) (target : Target) (old : Holdings) {new : Holdings} → (freshens : Freshens v target old new) → IsWithin old
+    → AllHeld (IsKept old.keeps_cookies) (after_freshen old.bytes v target freshens.left old.entries)
+freshened_kept v target old freshens within =
+    let keeps = old.keeps_cookies in let es = old.entries in
+    freshen_held (IsKept keeps) old.bytes v target freshens.left es (without_held (IsKept keeps) target es within.kept)
+    (all_weaken (λ variant. (may_hold keeps variant ≡ true) × (may_stay keeps v variant ≡ true)) (λ variant. may_hold keeps (after_validation v variant) ≡ true)
+    (stays_kept keeps v) freshens.left
+    (left_held (λ variant. may_hold keeps variant ≡ true) keeps v (variants_of target es) freshens.left
+    (variants_held (IsKept keeps) target es within.kept) freshens.leaves))
+
 pub freshen_within : (validation : Validation) (target : Target) (old new : Holdings) → Freshens validation target old new → IsWithin old → IsWithin new
 freshen_within v target old new freshens within =
     let es = old.entries in let left = freshens.left in
@@ -260,22 +289,23 @@ freshen_within v target old new freshens within =
     (few_within old _ within (by_lookup target es (lookup (same_target target) es) refl
     (λ vs is.
     let few = found_few target es within.few_variants is.is_known in
-    let fewer = leaves_fewer v (variants_of target es) left freshens.leaves in
+    let fewer = leaves_fewer old.keeps_cookies v (variants_of target es) left freshens.leaves in
     by_any (list_any (is_validated v) left) refl
     (λ some. trimmed_few old.keys old.bytes target (map (after_validation v) left) (without target es) (one_freshened v left some)
     (omega (arith, few.1, fewer, as_many v left))
     (all_without HasFewVariants target es within.few_variants) (omega (arith, is.one_less, within.few_keys)))
     (set_few old.keys old.bytes target es vs left is (record { few_keys = within.few_keys; few_variants = within.few_variants; light = within.light })
     (omega (arith, few.1, fewer))
-    (omega (arith, leaves_lighter v (variants_of target es) left freshens.leaves, ap variants_weight is.variants))))
+    (omega (arith, leaves_lighter old.keeps_cookies v (variants_of target es) left freshens.leaves, ap variants_weight is.variants))))
     (λ is.
-    let none : left ≡ [] = nothing_left v (variants_of target es) left (no_variants target es is) freshens.leaves in
+    let none : left ≡ [] = nothing_left old.keeps_cookies v (variants_of target es) left (no_variants target es is) freshens.leaves in
     subst (λ (l : List Stored). AreFew old.keys old.bytes (after_freshen old.bytes v target l es)) (sym none)
     (record {
       few_keys = omega (arith, within.few_keys, fewer_without target es);
       few_variants = all_without HasFewVariants target es within.few_variants;
       light = omega (arith, within.light, lighter_without target es);
-    }))))
+    })))
+    (freshened_kept v target old freshens within))
   where
     by_any : (b : Bool) → list_any (is_validated v) freshens.left ≡ b
         → (list_any (is_validated v) freshens.left ≡ true → AreFew old.keys old.bytes (trimmed old.bytes ((target, map (after_validation v) freshens.left) ∷ without target old.entries)))
@@ -288,6 +318,6 @@ freshen_within v target old new freshens within =
         subst (λ (t : Bool). AreFew old.keys old.bytes (cond t (trimmed old.bytes ((target, map (after_validation v) freshens.left) ∷ without target old.entries)) (with_variants target freshens.left old.entries)))
         (sym is) none
 
-    nothing_left : (v : Validation) (xs left : List Stored) → xs ≡ [] → Leaves v xs left → left ≡ []
-    nothing_left v [] left none leaves = leaves
-    nothing_left v (x ∷ xs) left none leaves = absurd (cc)
+    nothing_left : (keeps : Bool) (v : Validation) (xs left : List Stored) → xs ≡ [] → Leaves keeps v xs left → left ≡ []
+    nothing_left keeps v [] left none leaves = leaves
+    nothing_left keeps v (x ∷ xs) left none leaves = absurd (cc)

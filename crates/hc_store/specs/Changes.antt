@@ -11,7 +11,7 @@ use Rattle.hc_update.specs.declared.stored.Stored.{Stored}
 use Rattle.hc_update.specs.States.{freshened}
 use Rattle.hc_update.specs.Identifying.{identifies, may_identify}
 use Rattle.hc_update.specs.Sizes.{fits}
-use Rattle.hc_store.specs.Entries.{Entries, variants_of, variants_weight, most_variants}
+use Rattle.hc_store.specs.Entries.{Entries, may_hold, variants_of, variants_weight, most_variants}
 use Rattle.hc_store.specs.Choosing.{is_selected}
 
 -- ---- keys
@@ -99,9 +99,13 @@ renewed v variant = freshened variant v.not_modified.fields v.request_time v.res
 abbrev pub after_validation : Validation → Stored → Stored
 after_validation validation variant = if is_validated validation variant then renewed validation variant else variant
 
--- whether a variant may stay: what becomes of it fits
-abbrev pub may_stay : Validation → Stored → Bool
-may_stay validation variant = not (is_validated validation variant) || fits (renewed validation variant)
+-- whether a response may be what a 304 made of a variant: it fits, and sets no cookie where such responses aren't kept
+abbrev pub may_become : Bool → Stored → Bool
+may_become keeps_cookies freshened = fits freshened && may_hold keeps_cookies freshened
+
+-- whether a variant may stay: it is as it was, or may be what it becomes
+abbrev pub may_stay : Bool → Validation → Stored → Bool
+may_stay keeps_cookies validation variant = not (is_validated validation variant) || may_become keeps_cookies (renewed validation variant)
 
 -- whether it may be freshened, whatever its Vary line selects
 abbrev pub may_be_validated : Validation → Stored → Bool
@@ -112,11 +116,11 @@ abbrev pub may_go : Validation → Stored → Bool
 may_go validation variant = is_validated validation variant || (may_be_validated validation variant && has_name (codes "vary") variant.fields)
 
 -- some variants stay, as memory has it
-abbrev pub Leaves : Validation → List Stored → List Stored → Type 0
-Leaves validation [] left = left ≡ []
-Leaves validation (variant ∷ more) left =
-    ((may_go validation variant ≡ true) × Leaves validation more left)
-    ⊎ ((may_stay validation variant ≡ true) × (rest : List Stored) × (left ≡ variant ∷ rest) × Leaves validation more rest)
+abbrev pub Leaves : Bool → Validation → List Stored → List Stored → Type 0
+Leaves keeps_cookies validation [] left = left ≡ []
+Leaves keeps_cookies validation (variant ∷ more) left =
+    ((may_go validation variant ≡ true) × Leaves keeps_cookies validation more left)
+    ⊎ ((may_stay keeps_cookies validation variant ≡ true) × (rest : List Stored) × (left ≡ variant ∷ rest) × Leaves keeps_cookies validation more rest)
 
 -- those that stay are freshened where it is about them; the key is then the most recent, and others go where they are too heavy
 abbrev pub after_freshen : ℕ → Validation → Target → List Stored → Entries → Entries

@@ -1,9 +1,10 @@
 -- What a store holds, and how much that weighs.
-use Rattle.std.specs.Prelude.{ℕ, ◌+◌, ◌<◌, ◌≤◌, Bool, List, [], length, unwrap_or}
+use Rattle.std.specs.Prelude.{◌≡◌, ℕ, ◌+◌, ◌<◌, ◌≤◌, Bool, true, not, ◌||◌, List, [], codes, length, unwrap_or}
 use Rattle.std.specs.List.{sum_by, AllByRecursion, IsDistinct}
 use Rattle.std.specs.Map.{keys_of, values_of, lookup}
 use Rattle.std.specs.Option.{is_some}
 use Rattle.hc_fields.specs.declared.fields.Field.{Field}
+use Rattle.hc_fields.specs.Values.{has_name}
 use Rattle.hc_head.specs.declared.head.Target.{Target}
 use Rattle.hc_head.specs.Targets.{same_target}
 use Rattle.hc_update.specs.declared.stored.Stored.{Stored}
@@ -20,6 +21,20 @@ knows target entries = is_some (lookup (same_target target) entries)
 -- what is stored of a target
 abbrev pub variants_of : Target → Entries → List Stored
 variants_of target entries = unwrap_or (lookup (same_target target) entries) []
+
+-- what holds of each response, with its target
+abbrev pub AllHeld : (Target → Stored → Type 0) → Entries → Type 0
+AllHeld P entries = AllByRecursion (λ entry. AllByRecursion (P entry.0) entry.1) entries
+
+-- ---- cookies
+
+-- whether a response has a Set-Cookie line (RFC 6265 section 4.1)
+abbrev pub sets_cookie : Stored → Bool
+sets_cookie stored = has_name (codes "set-cookie") stored.fields
+
+-- whether a store may hold it: one that sets a cookie only where it keeps such responses
+abbrev pub may_hold : Bool → Stored → Bool
+may_hold keeps_cookies stored = keeps_cookies || not (sets_cookie stored)
 
 -- ---- weights
 
@@ -41,15 +56,16 @@ entries_weight entries = sum_by variants_weight (values_of entries)
 
 -- ---- bounds
 
--- a store as contracts see it: what it holds, the most keys, and the most that all weighs
+-- a store as contracts see it: what it holds, the most keys, the most that all weighs, and whether it keeps responses that set a cookie
 pub record Holdings : Type 0 where
   pub entries : Entries
   pub keys : ℕ
   pub bytes : ℕ
+  pub keeps_cookies : Bool
 
 -- a store that holds nothing
-abbrev pub empty : ℕ → ℕ → Holdings
-empty keys bytes = record { entries = []; keys = keys; bytes = bytes }
+abbrev pub empty : ℕ → ℕ → Bool → Holdings
+empty keys bytes keeps_cookies = record { entries = []; keys = keys; bytes = bytes; keeps_cookies = keeps_cookies }
 
 -- the most variants of a key
 abbrev pub most_variants : ℕ
@@ -59,13 +75,14 @@ most_variants = 16
 abbrev pub HasFewVariants : Target × List Stored → Type 0
 HasFewVariants entry = (0 < length entry.1) × (length entry.1 ≤ most_variants)
 
--- the bounds of every store
+-- what holds of every store: its bounds, and that it holds no response that sets a cookie, unless it keeps those
 pub record IsWithin (store : Holdings) : Type 0 where
   pub some_keys : 0 < store.keys
   pub no_more_keys : store.keys ≤ 65536
   pub few_keys : length store.entries ≤ store.keys
   pub few_variants : AllByRecursion HasFewVariants store.entries
   pub light : entries_weight store.entries ≤ store.bytes
+  pub kept : AllHeld (λ target stored. may_hold store.keeps_cookies stored ≡ true) store.entries
 
 -- no key stands twice
 abbrev pub HasDistinctKeys : Entries → Type 0

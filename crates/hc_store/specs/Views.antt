@@ -1,5 +1,5 @@
 -- What the code's own values are seen as.
-use Rattle.std.specs.Prelude.{ℕ, List}
+use Rattle.std.specs.Prelude.{ℕ, Bool, List}
 use Rattle.lru.specs.LruCache.{LruCache}
 use Rattle.hc_head.specs.declared.head.Target.{Target}
 use Rattle.hc_update.specs.declared.stored.Stored.{Stored}
@@ -16,6 +16,6 @@ validation_seen v = record {
   position = v.position;
 }
 
--- the keys of a store, and how much they may weigh
-abbrev pub held : ℕ → LruCache Target (List Stored) → Holdings
-held bytes keys = record { entries = keys.entries; keys = keys.cap; bytes = bytes }
+-- the keys of a store, how much they may weigh, and whether responses that set a cookie are kept
+abbrev pub held : ℕ → Bool → LruCache Target (List Stored) → Holdings
+held bytes keeps_cookies keys = record { entries = keys.entries; keys = keys.cap; bytes = bytes; keeps_cookies = keeps_cookies }

@@ -134,18 +134,19 @@ pub(crate) fn freshen_key<S: BuildHasher>(
     bytes: usize,
     target: &Target,
     validation: NotModified<'_>,
+    keeps_cookies: bool,
 ) -> usize
     requires weighs { total ≡ entries_weight keys.old.entries }
     requires light { total ≤ bytes }
     requires in_time { validation.response_time < end_of_moments }
-    ensures freshens { Freshens (validation_seen validation.entry) target.now (held bytes keys.old) (held bytes keys.new) }
+    ensures freshens { Freshens (validation_seen validation.entry) target.now (held bytes keeps_cookies keys.old) (held bytes keeps_cookies keys.new) }
     ensures total { result ≡ entries_weight keys.new.entries }
 {
     let Some(variants) = keys.peek_mut(target) else {
         return total;
     };
     let others = weight_without(total, variants.as_slice());
-    if !variants.freshen(validation) {
+    if !variants.freshen(validation, keeps_cookies) {
         let left = weight_within(bytes, variants.as_slice());
         remove_if_empty(keys, target);
         return left + others;

@@ -4,6 +4,7 @@
 
 mod adding;
 mod choosing;
+mod cookies;
 mod freshening;
 mod keys;
 mod laws;
@@ -14,7 +15,10 @@ mod variants;
 mod weights;
 
 pub use adding::MOST_VARIANTS;
-pub use laws::{the_chosen_is_the_latest, trimming_keeps_what_fits, what_is_put_is_there};
+pub use laws::{
+    no_cookie_is_chosen, the_chosen_is_the_latest, trimming_keeps_what_fits, what_is_put_is_there,
+    what_would_set_a_cookie_goes,
+};
 pub use putting::Put;
 pub use store::Store;
 pub use variants::Variants;

@@ -5,6 +5,8 @@
 pub enum Put {
     /// It is stored.
     Stored,
+    /// It sets a cookie, and the store keeps no such responses.
+    SetsCookie,
     /// It is larger than a store keeps.
     TooLarge,
     /// Memory was refused.

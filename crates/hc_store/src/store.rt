@@ -3,6 +3,7 @@ ghost use Rattle.hc_store.specs.Entries.{IsWithin, entries_weight};
 ghost use Rattle.hc_store.specs.Views.{held};
 
 use crate::choosing::{chosen_place, chosen_validated_place};
+use crate::cookies::may_hold;
 use crate::freshening::NotModified;
 use crate::keys::{freshen_key, lend, put_in, remove_key};
 use crate::putting::Put;
@@ -26,6 +27,8 @@ pub struct Store<S: BuildHasher = DefaultHasher> {
     weight: usize,
     /// The most that it may weigh.
     bytes: usize,
+    /// Whether responses that set a cookie are kept.
+    keeps_cookies: bool,
 }
 
 impl<S: BuildHasher> Model for Store<S> {
@@ -35,24 +38,30 @@ impl<S: BuildHasher> Model for Store<S> {
 
     ghost Value = { Holdings };
 
-    ghost view = { λ s. held s.bytes s.keys };
+    ghost view = { λ s. held s.bytes s.keeps_cookies s.keys };
 
-    ghost invariant = { λ s. (s.weight ≡ entries_weight s.keys.entries) × IsWithin (held s.bytes s.keys) };
+    ghost invariant = { λ s. (s.weight ≡ entries_weight s.keys.entries) × IsWithin (held s.bytes s.keeps_cookies s.keys) };
 }
 
 impl Store<DefaultHasher> {
     ghost use Rattle.hc_store.specs.Entries.{empty};
 
-    /// An empty store of at most so many keys, from 1 to 65,536, and so many octets, counted as weights are.
+    /// An empty store of at most so many keys, from 1 to 65,536, and so many octets, counted as weights are;
+    /// and whether it keeps responses that set a cookie.
     ///
     /// Keys are hashed with a fixed seed. For targets that an attacker picks, use `with_hasher` with a
     /// `RandomState`.
-    pub fn new(alloc: Global, keys: usize, bytes: usize) -> Result<Self, AllocError>
+    pub fn new(
+        alloc: Global,
+        keys: usize,
+        bytes: usize,
+        keeps_cookies: bool,
+    ) -> Result<Self, AllocError>
         requires some { 0 < keys }
         requires few { keys ≤ 65536 }
-        ensures { IfOk result (λ store. store ≡ empty keys bytes) }
+        ensures { IfOk result (λ store. store ≡ empty keys bytes keeps_cookies) }
     {
-        Store::with_hasher(alloc, keys, bytes, BuildHasherDefault::new())
+        Store::with_hasher(alloc, keys, bytes, keeps_cookies, BuildHasherDefault::new())
     }
 }
 
@@ -64,17 +73,19 @@ impl<S: BuildHasher + Drop> Store<S> {
         alloc: Global,
         keys: usize,
         bytes: usize,
+        keeps_cookies: bool,
         hasher: S,
     ) -> Result<Self, AllocError>
         requires some { 0 < keys }
         requires few { keys ≤ 65536 }
-        ensures { IfOk result (λ store. store ≡ empty keys bytes) }
+        ensures { IfOk result (λ store. store ≡ empty keys bytes keeps_cookies) }
     {
         let keys = NonZeroUsize::new(keys).unwrap();
         Ok(Store {
             keys: LruCache::with_hasher(alloc, keys, hasher)?,
             weight: 0,
             bytes,
+            keeps_cookies,
         })
     }
 }
@@ -182,6 +193,9 @@ impl<S: BuildHasher> Store<S> {
         ensures puts { Puts target stored self.old result self.new }
         ensures within { IsWithin self.new }
     {
+        if !may_hold(self.keeps_cookies, &stored) {
+            return Put::SetsCookie;
+        }
         if !is_small_enough(&stored, self.bytes) {
             return Put::TooLarge;
         }
@@ -196,8 +210,8 @@ impl<S: BuildHasher> Store<S> {
 
     /// Freshens the variants of the target that a 304 is about (RFC 9111 section 4.3.4). It answers the
     /// forward, which was sent at that moment, came at the other, both in seconds since 1970, and stands at
-    /// that position. A variant that finds no memory, or would no longer fit, is removed. Where one was
-    /// freshened, the key is the most recent then.
+    /// that position. A variant that finds no memory, would no longer fit, or would set a cookie in a store
+    /// that keeps no such responses, is removed. Where one was freshened, the key is the most recent then.
     pub fn freshen(
         &mut self,
         target: &Target,
@@ -224,7 +238,14 @@ impl<S: BuildHasher> Store<S> {
             response_time,
             position,
         };
-        self.weight = freshen_key(&mut self.keys, self.weight, self.bytes, target, validation);
+        self.weight = freshen_key(
+            &mut self.keys,
+            self.weight,
+            self.bytes,
+            target,
+            validation,
+            self.keeps_cookies,
+        );
     }
 
     /// Removes all variants of the target (RFC 9111 section 4.4).

@@ -78,13 +78,13 @@ impl Variants {
         }
     }
 
-    /// Freshens those that the 304 is about, and removes those that found no memory or no longer fit.
-    /// Answers whether one was freshened.
-    pub(crate) fn freshen(&mut self, validation: NotModified<'_>) -> bool
+    /// Freshens those that the 304 is about, and removes those that found no memory or may not be what
+    /// they became. Answers whether one was freshened.
+    pub(crate) fn freshen(&mut self, validation: NotModified<'_>, keeps_cookies: bool) -> bool
         requires { validation.response_time < end_of_moments }
-        ensures { IsLeft (validation_seen validation.entry) self.old result self.new }
+        ensures { IsLeft keeps_cookies (validation_seen validation.entry) self.old result self.new }
     {
-        freshen_all(&mut self.list, validation)
+        freshen_all(&mut self.list, validation, keeps_cookies)
     }
 
     /// Whether there is none.

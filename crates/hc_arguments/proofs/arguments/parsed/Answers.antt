@@ -28,12 +28,12 @@ returns-clause-convert g c = λ name file word same.
     words_give _ _ _ c.asked.result (convert_words name file word) same c.asked.ensures.asked c.asked.ensures.refused
 
 pub returns-clause-serve : goal.returns-clause-serve
-returns-clause-serve g c = λ name listen origin number file connections counts same.
-    words_give _ _ _ c.asked.result (serve_words name listen origin number file connections counts) same c.asked.ensures.asked c.asked.ensures.refused
+returns-clause-serve g c = λ name listen origin number file connections one counts same.
+    words_give _ _ _ c.asked.result (serve_words name listen origin number file connections one counts) same c.asked.ensures.asked c.asked.ensures.refused
 
 pub returns-clause-proxy : goal.returns-clause-proxy
-returns-clause-proxy g c = λ name listen origin same.
-    words_give _ _ _ c.asked.result (words_of_proxy name listen origin) same c.asked.ensures.asked c.asked.ensures.refused
+returns-clause-proxy g c = λ name listen origin one same.
+    words_give _ _ _ c.asked.result (words_of_proxy name listen origin one) same c.asked.ensures.asked c.asked.ensures.refused
 
 pub returns-clause-possible : goal.returns-clause-possible
 returns-clause-possible g c = IfOk-weaker c.asked.result _ _ (λ order asks. possible_from _ _ (task_of order) asks) c.asked.ensures.asked

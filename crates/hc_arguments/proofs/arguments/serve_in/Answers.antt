@@ -1,7 +1,7 @@
 use Rattle.std.proofs.Common.{codes, inl, inr, refl}
 use Rattle.std.proofs.lemmas.Result.{err_from_is_err_and}
 use Rattle.hc_options.proofs.FaultLemmas.{missing_at}
-use Rattle.hc_options.specs.declared.rows.Takes.TheVariants.{AnyText}
+use Rattle.hc_options.specs.declared.rows.Takes.TheVariants.{AnyText, OriginAddress}
 use Rattle.hc_arguments.specs.Tables.{entries_of, taken_by, wanted}
 use Rattle.hc_arguments.specs.Tables.Command.{Serves}
 use Rattle.hc_arguments.proofs.arguments.serve_in.Goals as goal
@@ -16,7 +16,7 @@ pub returns-in_err-origin-clause-err : goal.returns-in_err-origin-clause-err
 returns-in_err-origin-clause-err c =
     let same = err_from_is_err_and c.from_residual-in_err-origin.result c.from_residual-in_err-origin.ensures.1 in
     let missing = c.in_err-origin.ensures.err in
-    rw (same.1, same.2) (missing_at taken_by (entries_of Serves) _ (wanted (codes "origin") AnyText) _ (inr (inl refl)) refl missing.0 missing.1)
+    rw (same.1, same.2) (missing_at taken_by (entries_of Serves) _ (wanted (codes "origin") OriginAddress) _ (inr (inl refl)) refl missing.0 missing.1)
 
 pub returns-in_err-file-clause-err : goal.returns-in_err-file-clause-err
 returns-in_err-file-clause-err c =

@@ -16,8 +16,8 @@ returns-in_default-clause-freshens g c =
     let is = unknown target es (not_known target es c.in_default.ensures.value) in
     record {
       left = [];
-      leaves = subst (λ (l : List Stored). Leaves (validation_seen c.args.validation) l []) (sym (ap (λ (o : Option (List Stored)). unwrap_or o []) is.value)) refl;
-      becomes = ap (λ (l : Entries). record { entries = l; keys = c.args.keys.now.cap; bytes = c.args.bytes }) (sym is.others);
+      leaves = subst (λ (l : List Stored). Leaves c.args.keeps_cookies (validation_seen c.args.validation) l []) (sym (ap (λ (o : Option (List Stored)). unwrap_or o []) is.value)) refl;
+      becomes = ap (λ (l : Entries). record { entries = l; keys = c.args.keys.now.cap; bytes = c.args.bytes; keeps_cookies = c.args.keeps_cookies }) (sym is.others);
     }
 
 pub weight_without-others-requires : goal.weight_without-others-requires
@@ -38,7 +38,7 @@ weight_within-left-requires g c =
       is.weighs,
       c.requires.weighs,
       c.requires.light,
-      leaves_lighter v c.in-Some.variants.now left c.freshen.ensures.leaves,
+      leaves_lighter c.args.keeps_cookies v c.in-Some.variants.now left c.freshen.ensures.leaves,
       ap variants_weight (c.as_slice-then-not-freshen.ensures ∙ same),
     )
 
@@ -55,7 +55,7 @@ overflow_add-result g c =
       c.requires.weighs,
       c.requires.light,
       c.ranges.bytes.fits,
-      leaves_lighter v c.in-Some.variants.now left c.freshen.ensures.leaves,
+      leaves_lighter c.args.keeps_cookies v c.in-Some.variants.now left c.freshen.ensures.leaves,
       ap variants_weight (c.as_slice-then-not-freshen.ensures ∙ same),
       c.weight_within-left.ensures,
       c.weight_without-others.ensures,
@@ -74,8 +74,8 @@ returns-then-not-freshen-clause-freshens g c =
     ap (λ (b : Bool). cond b (trimmed bytes ((target, map (after_validation v) left) ∷ without target es)) (with_variants target left es)) none in
     record {
       left = left;
-      leaves = subst (λ (l : List Stored). Leaves v l left) (sym is.variants) c.freshen.ensures.leaves;
-      becomes = holdings_are bytes (all ∙ sym wanted) (ap (λ k. k.cap) c.remove_if_empty.ensures);
+      leaves = subst (λ (l : List Stored). Leaves c.args.keeps_cookies v l left) (sym is.variants) c.freshen.ensures.leaves;
+      becomes = holdings_are bytes c.args.keeps_cookies (all ∙ sym wanted) (ap (λ k. k.cap) c.remove_if_empty.ensures);
     }
 
 pub returns-then-not-freshen-clause-total : goal.returns-then-not-freshen-clause-total
@@ -130,8 +130,8 @@ returns-clause-freshens g c =
     ∙ trimmed_is bytes target after (without target es) (one_freshened v left some) in
     record {
       left = left;
-      leaves = subst (λ (l : List Stored). Leaves v l left) (sym is.variants) c.freshen.ensures.leaves;
-      becomes = holdings_are bytes
+      leaves = subst (λ (l : List Stored). Leaves c.args.keeps_cookies v l left) (sym is.variants) c.freshen.ensures.leaves;
+      becomes = holdings_are bytes c.args.keeps_cookies
           (all
           ∙ ap (λ (r : Option ℕ). keyed target c.settle-settled.new.self ++ kept_beside r (without target es)) c.settle-settled.ensures.room
           ∙ ap (λ (l : List Stored). keyed target l ++ kept_beside (room_beside bytes (variants_weight c.freshen.new.self)) (without target es)) c.settle-settled.ensures.variants

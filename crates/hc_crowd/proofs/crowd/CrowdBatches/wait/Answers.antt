@@ -1,3 +1,4 @@
+use Rattle.std.proofs.Common.{arith, refl}
 use Rattle.hc_agenda.specs.MomentsKept.{told_by}
 use Rattle.hc_crowd.proofs.CrowdLemmas.{up_to}
 use Rattle.hc_crowd.proofs.crowd.CrowdBatches.wait.Goals as goal
@@ -8,5 +9,8 @@ returns-clause-tells g c = λ log t. (
   up_to (told_by c.args.self.now.clock) (told_by c.look.new.self) log c.look.ensures.forward t.1,
 )
 
-pub returns-clause-shown : goal.returns-clause-shown
-returns-clause-shown g c = λ log s. c.refusal.ensures.kept.shown log (c.wait.ensures.kept.shown log s)
+pub returns-clause-links : goal.returns-clause-links
+returns-clause-links g c = record {
+  shown = λ log s. c.refusal.ensures.kept.shown log (c.wait.ensures.kept.shown log s);
+  limits = record { as_many = refl; bounds = refl; moments = λ moment may. (omega (arith, c.look.ensures.forward, may.0), may.1) };
+}

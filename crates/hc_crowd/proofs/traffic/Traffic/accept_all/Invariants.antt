@@ -1,4 +1,4 @@
-use Rattle.hc_crowd.specs.Keeping.{KeepsWithin}
+use Rattle.hc_peers.specs.Keeping.{KeepsWithin}
 use Rattle.hc_crowd.proofs.traffic.Traffic.accept_all.Given as goal
 
 -- what was told so far is told still, and nothing was written

@@ -2,4 +2,4 @@ use Rattle.hc_crowd.proofs.KeepingLemmas.{keeps_then}
 use Rattle.hc_crowd.proofs.traffic.Traffic.drop_lingering.Goals as goal
 
 pub returns-then-drop_lingering : goal.returns-then-drop_lingering
-returns-then-drop_lingering g c = record { kept = keeps_then (record { tells = c.drop_lingering.ensures.tells; shown = c.drop_lingering.ensures.shown }) c.free_place.ensures.kept }
+returns-then-drop_lingering g c = record { kept = keeps_then c.drop_lingering.ensures.kept c.free_place.ensures.kept }

@@ -2,4 +2,4 @@ use Rattle.hc_crowd.proofs.KeepingLemmas.{keeps_then}
 use Rattle.hc_crowd.proofs.traffic.Traffic.drop_turned_away.Goals as goal
 
 pub returns-then-drop_turned_away : goal.returns-then-drop_turned_away
-returns-then-drop_turned_away g c = record { kept = keeps_then (record { tells = c.drop_turned_away.ensures.tells; shown = c.drop_turned_away.ensures.shown }) c.forget_guest.ensures.kept }
+returns-then-drop_turned_away g c = record { kept = keeps_then c.drop_turned_away.ensures.kept c.forget_guest.ensures.kept }

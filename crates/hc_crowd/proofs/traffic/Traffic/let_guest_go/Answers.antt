@@ -2,4 +2,4 @@ use Rattle.hc_crowd.proofs.KeepingLemmas.{keeps_then}
 use Rattle.hc_crowd.proofs.traffic.Traffic.let_guest_go.Goals as goal
 
 pub returns-then-let_guest_go : goal.returns-then-let_guest_go
-returns-then-let_guest_go g c = record { kept = keeps_then (record { tells = c.let_guest_go.ensures.tells; shown = c.let_guest_go.ensures.shown }) c.forget_guest.ensures.kept }
+returns-then-let_guest_go g c = record { kept = keeps_then c.let_guest_go.ensures.kept c.forget_guest.ensures.kept }

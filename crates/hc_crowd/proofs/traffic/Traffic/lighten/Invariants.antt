@@ -1,4 +1,4 @@
-use Rattle.hc_crowd.specs.Keeping.{KeepsPeers}
+use Rattle.hc_peers.specs.Keeping.{KeepsPeers}
 use Rattle.std.specs.Vec.{vec_len}
 use Rattle.hc_crowd.proofs.traffic.Traffic.lighten.Given as goal
 

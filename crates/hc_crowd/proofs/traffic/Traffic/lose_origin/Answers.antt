@@ -2,4 +2,4 @@ use Rattle.hc_crowd.proofs.KeepingLemmas.{keeps_then}
 use Rattle.hc_crowd.proofs.traffic.Traffic.lose_origin.Goals as goal
 
 pub returns : goal.returns
-returns g c = record { kept = keeps_then (record { tells = c.lose_origin.ensures.tells; shown = c.lose_origin.ensures.shown }) c.give_turn.ensures.kept }
+returns g c = record { kept = keeps_then c.lose_origin.ensures.kept c.give_turn.ensures.kept }

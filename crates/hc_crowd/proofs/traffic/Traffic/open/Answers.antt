@@ -2,7 +2,7 @@ use Rattle.std.proofs.Common.{◌∷◌}
 use Rattle.hc_events.specs.declared.Happening.TheVariants.{ClientOpened}
 use Rattle.hc_order.specs.declared.occurrence.Reason.TheVariants.{Peer}
 use Rattle.hc_order.specs.Log.Move.{Heard}
-use Rattle.hc_connection.specs.Moves.{occurs}
+use Rattle.hc_link_traits.specs.Telling.{occurs}
 use Rattle.hc_crowd.proofs.traffic.Traffic.open.Goals as goal
 
 pub returns-clause-tells : goal.returns-clause-tells

@@ -1,4 +1,4 @@
-use Rattle.hc_crowd.specs.Keeping.{KeepsPeers}
+use Rattle.hc_peers.specs.Keeping.{KeepsPeers}
 use Rattle.hc_crowd.proofs.traffic.Traffic.take_turns.Given as goal
 
 -- what was told so far is told still, and nothing was written

@@ -3,13 +3,13 @@ use Rattle.hc_crowd.proofs.KeepingLemmas.{keeps_within, within_then, then_hears_
 use Rattle.hc_crowd.proofs.traffic.Traffic.welcome.Goals as goal
 
 pub returns-in_default : goal.returns-in_default
-returns-in_default g c = record { heard = hears_nothing_within (within_then c.knocks.invariant (keeps_within (record { tells = c.next_knocking.ensures.tells; shown = c.next_knocking.ensures.shown }))) }
+returns-in_default g c = record { heard = hears_nothing_within (within_then c.knocks.invariant (keeps_within c.next_knocking.ensures.kept)) }
 
 pub returns-in_err-happened : goal.returns-in_err-happened
-returns-in_err-happened g c = let p = err_from_is_err_and c.from_residual.result c.from_residual.ensures.1 in rw p.1 (record { heard = hears_refused_within (within_then (within_then c.knocks.invariant (keeps_within (record { tells = c.next_knocking.ensures.tells; shown = c.next_knocking.ensures.shown }))) (within_refused c.in_err-happened.ensures.heard)) })
+returns-in_err-happened g c = let p = err_from_is_err_and c.from_residual.result c.from_residual.ensures.1 in rw p.1 (record { heard = hears_refused_within (within_then (within_then c.knocks.invariant (keeps_within c.next_knocking.ensures.kept)) (within_refused c.in_err-happened.ensures.heard)) })
 
 pub returns-in-Some-2 : goal.returns-in-Some-2
-returns-in-Some-2 g c = record { heard = then_hears_within (within_then c.knocks.invariant (keeps_within (record { tells = c.next_knocking.ensures.tells; shown = c.next_knocking.ensures.shown }))) (rw c.in-Some-2.is at c.in_ok-happened.ensures.heard) }
+returns-in-Some-2 g c = record { heard = then_hears_within (within_then c.knocks.invariant (keeps_within c.next_knocking.ensures.kept)) (rw c.in-Some-2.is at c.in_ok-happened.ensures.heard) }
 
 pub knocks-preserved : goal.knocks-preserved
-knocks-preserved g c = within_then (within_then c.knocks.invariant (keeps_within (record { tells = c.next_knocking.ensures.tells; shown = c.next_knocking.ensures.shown }))) (within_nothing (rw c.in_default-2.is at c.in_ok-happened.ensures.heard))
+knocks-preserved g c = within_then (within_then c.knocks.invariant (keeps_within c.next_knocking.ensures.kept)) (within_nothing (rw c.in_default-2.is at c.in_ok-happened.ensures.heard))

@@ -1,12 +1,13 @@
-use Rattle.std.proofs.Common.{lit<}
+use Rattle.std.proofs.Common.{lit<, ap, ◌∙◌}
 use Rattle.hc_open.specs.Links.{IsClient}
 use Rattle.hc_open.proofs.StartLemmas.{none_alike}
+use Rattle.hc_service.specs.Numbers.{no_numbers}
 use Rattle.hc_machine.proofs.desk.Desk.new.Goals as goal
 
 pub returns : goal.returns
-returns g c = λ settings name-is store-is. record {
+returns g c = λ settings options name-is room-is store-is. record {
   name = name-is;
-  numbers = c.new.ensures;
+  numbers = c.new.ensures ∙ ap no_numbers room-is;
   clients = none_alike IsClient c.new-2.result c.new-2.ensures.empty;
   exchanges = c.new-3.ensures;
   links = c.new-4.ensures;

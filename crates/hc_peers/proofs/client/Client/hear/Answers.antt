@@ -1,5 +1,5 @@
 use Rattle.std.proofs.Common.{Bool, subst, sym}
-use Rattle.hc_heard.specs.Hearings.{HasFailed}
+use Rattle.hc_flow.specs.Hearings.{HasFailed}
 use Rattle.hc_peers.specs.Hearings.{IsHeardFor}
 use Rattle.hc_peers.proofs.client.Client.hear.Goals as goal
 

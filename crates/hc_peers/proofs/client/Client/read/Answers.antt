@@ -1,7 +1,7 @@
 use Rattle.std.proofs.Common.{Ok, subst, sym}
-use Rattle.hc_heard.specs.declared.heard.Heard.{Heard}
-use Rattle.hc_heard.specs.Hearings.{KeepsHeard}
-use Rattle.hc_peers.specs.Links.{IsClient}
+use Rattle.hc_flow.specs.declared.heard.Heard.{Heard}
+use Rattle.hc_flow.specs.Hearings.{KeepsHeard}
+use Rattle.hc_peers.specs.Clients.{IsClient}
 use Rattle.hc_peers.proofs.ReadLemmas.{still_client}
 use Rattle.hc_peers.proofs.client.Client.read.Goals as goal
 

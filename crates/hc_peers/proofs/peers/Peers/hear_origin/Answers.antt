@@ -1,53 +1,26 @@
-use Rattle.std.proofs.Common.{arith}
-use Rattle.hc_order.specs.declared.occurrence.Reason.TheVariants.{Peer}
-use Rattle.hc_peers.proofs.PlaceLemmas.{few_still, same_clients, same_guests, same_places}
+use Rattle.std.proofs.lemmas.Result.{err_from_is_err_and}
+use Rattle.std.proofs.Common.{Ok, Err}
+use Rattle.hc_peers.proofs.LentLemmas.{forward_gone, forward_hears, forward_works}
 use Rattle.hc_peers.proofs.peers.Peers.hear_origin.Goals as goal
 
-pub returns-in-Octets-clause-tells : goal.returns-in-Octets-clause-tells
-returns-in-Octets-clause-tells g c = λ bounds log t moment. record {
-  clients = t.clients;
-  forwards = (rw c.in-Octets.is at c.in_ok-octets.ensures.kept) log t.forwards moment Peer;
-  guests = t.guests;
-  last = t.last;
-  count = omega (arith, t.count);
-  few = few_still bounds c.args.self.now _ (same_clients c.args.self.now.clients) (same_guests c.args.self.now) c.hear.ensures.linked (λ f lingers. lingers) (same_places _) t.few;
-}
+pub returns-in_err-heard-clause-heard : goal.returns-in_err-heard-clause-heard
+returns-in_err-heard-clause-heard g c =
+    let p = err_from_is_err_and c.from_residual.result c.from_residual.ensures.1 in
+    rw p.1
+    (forward_hears g.S.Stream.has_given g.S.Stream.has_got c.args.self.now c.hear_there.new.self c.args.forward (Err p.0) c.in_err-heard.ensures.opens c.in_err-heard.ensures.tells
+    c.hear_there.ensures.shown)
 
-pub returns-in-Octets-clause-may : goal.returns-in-Octets-clause-may
-returns-in-Octets-clause-may g c = λ most bounds log t. ((rw c.in-Octets.is at c.in_ok-octets.ensures.told) log t.forwards).0
+pub returns-then-not-is_lost-clause-heard : goal.returns-then-not-is_lost-clause-heard
+returns-then-not-is_lost-clause-heard g c =
+    forward_hears g.S.Stream.has_given g.S.Stream.has_got c.args.self.now c.hear_there.new.self c.args.forward (Ok c.in_ok-heard.heard) c.in_ok-heard.ensures.opens
+    (λ bounds log t.
+    forward_works g.S.Stream.has_given g.S.Stream.has_got bounds c.hear_there.new.self c.args.forward c.in_ok-heard.heard log c.if-not-is_lost.ensures (c.in_ok-heard.ensures.tells bounds log t))
+    c.hear_there.ensures.shown
 
-pub returns-in-End-clause-tells : goal.returns-in-End-clause-tells
-returns-in-End-clause-tells g c = λ bounds log t moment. record {
-  clients = t.clients;
-  forwards = (rw c.in-End.is at c.in_ok-octets.ensures.kept) log t.forwards moment;
-  guests = t.guests;
-  last = t.last;
-  count = omega (arith, t.count);
-  few = few_still bounds c.args.self.now _ (same_clients c.args.self.now.clients) (same_guests c.args.self.now) c.hear.ensures.linked (λ f lingers. lingers) (same_places _) t.few;
-}
-
-pub returns-in-End-clause-may : goal.returns-in-End-clause-may
-returns-in-End-clause-may g c = λ most bounds log t. ((rw c.in-End.is at c.in_ok-octets.ensures.told) log t.forwards).0
-
-pub returns-in-Lost-clause-tells : goal.returns-in-Lost-clause-tells
-returns-in-Lost-clause-tells g c = λ bounds log t moment. record {
-  clients = t.clients;
-  forwards = (rw c.in-Lost.is at c.in_ok-octets.ensures.kept) log t.forwards moment;
-  guests = t.guests;
-  last = t.last;
-  count = omega (arith, t.count);
-  few = few_still bounds c.args.self.now _ (same_clients c.args.self.now.clients) (same_guests c.args.self.now) c.hear.ensures.linked (λ f lingers. lingers) (same_places _) t.few;
-}
-
-pub returns-in-Lost-clause-may : goal.returns-in-Lost-clause-may
-returns-in-Lost-clause-may g c = λ most bounds log t. ((rw c.in-Lost.is at c.in_ok-octets.ensures.told) log t.forwards).0
-
-pub returns-in-Nothing-clause-tells : goal.returns-in-Nothing-clause-tells
-returns-in-Nothing-clause-tells g c = λ bounds log t. record {
-  clients = t.clients;
-  forwards = (rw c.in-Nothing.is at c.in_ok-octets.ensures.kept) log t.forwards;
-  guests = t.guests;
-  last = t.last;
-  count = t.count;
-  few = few_still bounds c.args.self.now _ (same_clients c.args.self.now.clients) (same_guests c.args.self.now) c.hear.ensures.linked (λ f lingers. lingers) (same_places _) t.few;
-}
+pub returns-clause-heard : goal.returns-clause-heard
+returns-clause-heard g c =
+    forward_hears g.S.Stream.has_given g.S.Stream.has_got c.args.self.now _ c.args.forward (Ok c.in_ok-heard.heard) c.in_ok-heard.ensures.opens
+    (λ bounds log t.
+    forward_gone g.S.Stream.has_given g.S.Stream.has_got c.hear_there.new.self c.remove.new.self c.args.forward c.remove.ensures.updates c.in_ok-heard.heard c.if-not-is_lost.ensures bounds log
+    (c.in_ok-heard.ensures.tells bounds log t))
+    c.hear_there.ensures.shown

@@ -15,7 +15,7 @@ use Rattle.hc_store.proofs.store.Store.choose_place.Goals as goal
 
 pub returns-in_default-clause-ok : goal.returns-in_default-clause-ok
 returns-in_default-clause-ok g c =
-    let target = c.args.target.now in let store = held c.self.inside.bytes c.self.inside.keys in
+    let target = c.args.target.now in let store = held c.self.inside.bytes c.self.inside.keeps_cookies c.self.inside.keys in
     subst (λ (h : Holdings). h ≡ holding (after_choose target h.entries) h) c.self.view_is
     (unknown_stays store target (unknown target store.entries (not_known target store.entries c.in_default.ensures)))
 
@@ -32,7 +32,7 @@ invariant_of-self g c =
     let is = known target keys.entries c.in-Some.variants.now (sym c.in-Some.ensures) in
     let entries = ap (λ k. k.entries) c.promote.ensures.entries ∙ chosen_is target keys.entries c.in-Some.variants.now is c.self.invariant.1.few_variants in (
       c.self.invariant.0 ∙ sym (choose_weighs target keys.entries) ∙ sym (ap entries_weight entries),
-      subst IsWithin (sym (holdings_are bytes entries (ap (λ k. k.cap) c.promote.ensures.entries))) (choose_within (held bytes keys) target c.self.invariant.1),
+      subst IsWithin (sym (holdings_are bytes c.self.inside.keeps_cookies entries (ap (λ k. k.cap) c.promote.ensures.entries))) (choose_within (held bytes c.self.inside.keeps_cookies keys) target c.self.invariant.1),
     )
 
 pub returns-clause-ok : goal.returns-clause-ok
@@ -40,7 +40,7 @@ returns-clause-ok g c =
     let target = c.args.target.now in let keys = c.self.inside.keys in let bytes = c.self.inside.bytes in
     let is = known target keys.entries c.in-Some.variants.now (sym c.in-Some.ensures) in
     let entries = ap (λ k. k.entries) c.promote.ensures.entries ∙ chosen_is target keys.entries c.in-Some.variants.now is c.self.invariant.1.few_variants in
-    holdings_are bytes entries (ap (λ k. k.cap) c.promote.ensures.entries)
+    holdings_are bytes c.self.inside.keeps_cookies entries (ap (λ k. k.cap) c.promote.ensures.entries)
     ∙ ap (λ (h : Holdings). holding (after_choose target h.entries) h) c.self.view_is
 
 pub returns-clause-answer : goal.returns-clause-answer

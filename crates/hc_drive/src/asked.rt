@@ -1,0 +1,37 @@
+//! A cache that is asked what it awaits.
+
+ghost use Rattle.hc_drive.specs.Rounds.{awaited_by, background_by, held_by};
+
+use hc_link_traits::Awaiting;
+use hc_machine::Core;
+use hc_order::Receiver;
+use std::hash::BuildHasher;
+
+/// A cache, as whoever hears what happens next may ask it.
+#[derive(Drop)]
+pub(crate) struct Asked<'a, S: BuildHasher> {
+    pub(crate) core: &'a Core<S>,
+}
+
+impl<'a, S: BuildHasher> Awaiting for Asked<'a, S> {
+    ghost awaited = { λ asked. awaited_by asked.core.now };
+
+    ghost background = { λ asked. background_by asked.core.now };
+
+    ghost holds = { λ asked. held_by asked.core.now };
+
+    fn awaits(&self, connection: u64) -> bool {
+        self.core.awaits(connection)
+    }
+
+    fn is_background(&self, forward: u64) -> bool {
+        self.core.is_background(forward)
+    }
+
+    fn held(&self, link: Receiver) -> usize {
+        match link {
+            Receiver::Client(connection) => self.core.held_of_client(connection),
+            Receiver::Origin(forward) => self.core.held_of_forward(forward),
+        }
+    }
+}

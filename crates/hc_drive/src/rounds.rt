@@ -1,0 +1,38 @@
+//! One round: something happens, the cache is handed it, and what it does is carried out.
+
+ghost use Rattle.std.specs.Prelude.{◌≡◌, ℕ, List, Ok, false};
+ghost use Rattle.hc_order.specs.Log.{Move};
+ghost use Rattle.hc_link_traits.specs.Keeping.{KeepsLinks, KeepsRecorder};
+ghost use Rattle.hc_drive.specs.Carrying.{CountsRecorder};
+ghost use Rattle.hc_drive.specs.Rounds.{GivesRound, awaited_by};
+
+use crate::asked::Asked;
+use crate::carrying::carry_out;
+use crate::fault::DriveFault;
+use hc_link_traits::{Link, Links};
+use hc_machine::Core;
+use std::alloc::Global;
+use std::hash::BuildHasher;
+
+/// One round. Answers whether something happened.
+pub(crate) fn round<S: BuildHasher, L: Links, R: Link>(
+    alloc: Global,
+    core: &mut Core<S>,
+    links: &mut L,
+    recorder: &mut R,
+) -> Result<bool, DriveFault>
+    ensures round { (log : List Move) (text : List ℕ) → L.tells links.old log → R.has_got recorder.old text
+        → GivesRound (L.most links.old) (L.heeds (awaited_by core.old)) (L.tells links.new) (R.has_got recorder.new)
+        result core.old core.new log text }
+    ensures rests { result ≡ Ok false → L.rests links.new }
+    ensures links { KeepsLinks L.shows L.most L.bounds L.may_tell links.old links.new }
+    ensures recorder { KeepsRecorder R.has_kept R.was_read recorder.old recorder.new }
+    ensures count { CountsRecorder result (R.count recorder.old) (R.count recorder.new) }
+{
+    let Some(occurrence) = links.next(&Asked { core: &*core })? else {
+        return Ok(false);
+    };
+    let actions = core.step(occurrence.event)?;
+    carry_out(alloc, links, recorder, actions.as_slice())?;
+    Ok(true)
+}

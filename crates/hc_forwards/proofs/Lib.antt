@@ -1,2 +1,0 @@
-pub mod ForwardLemmas
-pub mod LinkLemmas

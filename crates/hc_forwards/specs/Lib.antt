@@ -1,4 +1,0 @@
-pub mod Links
-pub mod Losses
-pub mod Telling
-pub mod Times

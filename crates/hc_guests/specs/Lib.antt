@@ -1,4 +1,0 @@
-pub mod Guests
-pub mod Lingering
-pub mod Tables
-pub mod TurnedAway

@@ -1,2 +1,0 @@
-pub mod FlowLemmas
-pub mod TableLemmas

@@ -1,2 +1,0 @@
-pub mod Hearings
-pub mod Links

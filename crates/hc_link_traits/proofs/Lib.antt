@@ -1,0 +1,4 @@
+pub mod BufferLemmas
+pub mod KeepingLemmas
+pub mod ReadLemmas
+pub mod WritingLemmas

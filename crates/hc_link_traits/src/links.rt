@@ -1,0 +1,91 @@
+//! The links of a cache as its driver sees them: it hears what happens there, and sends what the cache gives out.
+
+ghost use Rattle.std.specs.Prelude.{◌≡◌, ℕ, Bool, List, ◌∷◌, Option, Result, Ok, None};
+ghost use Rattle.std.specs.declared.alloc.AllocError.{AllocError};
+ghost use Rattle.hc_order.specs.declared.occurrence.Occurrence.{Occurrence};
+ghost use Rattle.hc_order.specs.declared.receiver.Receiver.{Receiver};
+ghost use Rattle.hc_order.specs.Log.{Move};
+ghost use Rattle.hc_order.specs.Log.Move.{Closed};
+ghost use Rattle.hc_link_traits.specs.Keeping.{KeepsLinks};
+ghost use Rattle.hc_link_traits.specs.Telling.{MayBeNext, TellsNext, TellsSent};
+
+use hc_framing::MessageText;
+use hc_order::{Occurrence, Receiver};
+use std::alloc::AllocError;
+
+/// What a cache awaits, for whoever hears what happens next.
+pub trait Awaiting {
+    /// That may be its answer about a connection.
+    ghost awaited: { Self → ℕ → Bool → Type 0 };
+
+    /// That may be its answer about a forward.
+    ghost background: { Self → ℕ → Bool → Type 0 };
+
+    /// That may be its answer about what it holds of a link.
+    ghost holds: { Self → Receiver → ℕ → Type 0 };
+
+    /// Whether a request of that connection awaits its reply.
+    fn awaits(&self, connection: u64) -> bool
+        ensures { awaited self.now connection result };
+
+    /// Whether nobody awaits what comes on that forward: it revalidates a stored response behind a reply that was given
+    /// out stale.
+    fn is_background(&self, forward: u64) -> bool
+        ensures { background self.now forward result };
+
+    /// How many octets the cache holds of what came on that link and isn't whole.
+    fn held(&self, link: Receiver) -> usize
+        ensures { holds self.now link result };
+}
+
+/// The links of a cache, all together.
+pub trait Links {
+    /// This is what passed at them so far, as far as they tell it.
+    ghost tells: { Self → List Move → Type 0 };
+
+    /// What was written to clients is no more than what was sent to them by then, as far as that is told.
+    ghost shows: { Self → List Move → Type 0 };
+
+    /// Nothing more will happen.
+    ghost rests: { Self → Type 0 };
+
+    /// How many connections are open at once at most.
+    ghost most: { Self → ℕ };
+
+    /// What bounds their number.
+    ghost Bounds: { Type 0 };
+
+    /// The bounds within which they stay, as they were made.
+    ghost bounds: { Self → Bounds };
+
+    /// There are no more of them than there may be within those bounds.
+    ghost within: { Bounds → Self → Type 0 };
+
+    /// The moments at which things may happen.
+    ghost may_tell: { Self → ℕ → Type 0 };
+
+    /// What happens next heeds whose requests await a reply, by what the cache may answer of that.
+    ghost heeds: { (ℕ → Bool → Type 0) → Result (Option Occurrence) AllocError → Type 0 };
+
+    /// What happens next, and why it is told, or none where nothing more will. It waits until something does, and may
+    /// ask the cache what it awaits. It fails only where memory is refused.
+    fn next<A: Awaiting>(&mut self, cache: &A) -> Result<Option<Occurrence>, AllocError>
+        ensures tells { (log : List Move) → tells self.old log → TellsNext (tells self.new) result log }
+        // It may happen by the log: where the cache mirrors the log, no test of the event fails but that of its moment.
+        ensures orderly { (log : List Move) → tells self.old log → MayBeNext (most self.old) result log }
+        ensures links { KeepsLinks shows most bounds may_tell self.old self.new }
+        ensures rests { result ≡ Ok None → rests self.new }
+        ensures in_turn { heeds (A.awaited cache.now) result };
+
+    /// Sends the octets to the client, or makes a link for the forward and sends them to the origin. Where a link fails,
+    /// or isn't made, they are lost, and that is told in its turn. It fails only where memory is refused, and sends
+    /// nothing then.
+    fn send(&mut self, to: Receiver, octets: &MessageText) -> Result<(), AllocError>
+        ensures sent { (log : List Move) → tells self.old log → TellsSent (tells self.new) result to octets.now log }
+        ensures links { KeepsLinks shows most bounds may_tell self.old self.new };
+
+    /// Closes a client's connection, or a forward.
+    fn close(&mut self, link: Receiver)
+        ensures closed { (log : List Move) → tells self.old log → tells self.new (Closed link ∷ log) }
+        ensures links { KeepsLinks shows most bounds may_tell self.old self.new };
+}

@@ -1,0 +1,63 @@
+//! A link to the origin that lingers.
+
+ghost use Rattle.std.specs.Prelude.{◌≡◌, not, true};
+
+use hc_flow::{Arrival, Stream};
+
+/// A link to the origin of a forward that was closed: what comes there is dropped, until the origin ends it.
+pub struct Lingerer<S: Stream> {
+    stream: S,
+    /// Whether it stands among the turns.
+    queued: bool,
+}
+
+impl<S: Stream + Drop> Drop for Lingerer<S> {
+    fn drop(self) {
+        let Lingerer { stream, queued: _ } = self;
+        drop(stream);
+    }
+}
+
+/// What came of a read of a link that lingers.
+#[derive(Clone, Copy, PartialEq, Eq)]
+pub enum Remainder {
+    /// Octets, which are dropped; more may be there.
+    More,
+    /// Nothing now.
+    Later,
+    /// Nothing comes any more: the origin has ended the link, or it has failed, or it doesn't linger.
+    Over,
+}
+
+impl<S: Stream> Lingerer<S> {
+    /// One that doesn't stand among the turns.
+    pub(crate) fn new(stream: S) -> Self
+        ensures { result.stream ≡ stream }
+    {
+        Lingerer {
+            stream,
+            queued: false,
+        }
+    }
+
+    /// It stands among the turns. Returns whether it didn't before.
+    pub(crate) fn queue(&mut self) -> bool
+        ensures first { result ≡ not self.old.queued }
+        ensures rest { self.new ≡ record self.old { queued = true } }
+    {
+        let is_first = !self.queued;
+        self.queued = true;
+        is_first
+    }
+
+    /// Reads what comes there, once, and drops it. It stands among the turns no more.
+    pub(crate) fn discard(&mut self, buffer: &mut [u8]) -> Remainder {
+        self.queued = false;
+        match self.stream.read(buffer) {
+            Arrival::Octets(_) => Remainder::More,
+            Arrival::Later => Remainder::Later,
+            Arrival::End => Remainder::Over,
+            Arrival::Failed => Remainder::Over,
+        }
+    }
+}

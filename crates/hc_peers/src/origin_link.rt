@@ -1,0 +1,243 @@
+//! One link to the origin.
+
+ghost use Rattle.std.specs.Prelude.{◌≡◌, ◌<◌, ◌&&◌, ◌||◌, not, true, false, ℕ, List, [], length, Some, None, is_some, IfOk, IfSome, IsErr};
+
+use hc_flow::{Emptying, Flow, Heard, Progress, Readiness, Stream, hear_flow, weight_of};
+use hc_framing::MessageText;
+use hc_order::Reason;
+use std::alloc::{AllocError, Global};
+
+/// A link to the origin, and the request, as long as the link isn't known to work.
+pub(crate) struct OriginLink<S: Stream> {
+    flow: Flow<S>,
+    /// The request once more: behind a link that fails before it is known to work, another one is tried.
+    spare: Option<MessageText>,
+    /// How the forward is getting on there.
+    progress: Progress,
+}
+
+impl<S: Stream + Drop> Drop for OriginLink<S> {
+    fn drop(self) {
+        let OriginLink {
+            flow,
+            spare,
+            progress: _,
+        } = self;
+        drop(flow);
+        drop(spare);
+    }
+}
+
+impl<S: Stream + Drop> OriginLink<S> {
+    ghost use Rattle.hc_flow.specs.Paces.{progress_written};
+    ghost use Rattle.hc_flow.specs.Hearings.{FailsOnly, GivesHeard, HasFailed, IsEndOf, IsRead};
+    ghost use Rattle.hc_peers.specs.Forwards.{IsLinked, IsUnused, spare_behind};
+    ghost use Rattle.hc_flow.specs.Flows.{TellsOwed, is_owed};
+    ghost use Rattle.hc_peers.specs.Times.{progress_behind};
+
+    /// One that begins to be made, and owes the request. So the forward is getting on.
+    pub(crate) fn opening(
+        alloc: Global,
+        stream: S,
+        request: &MessageText,
+        progress: Progress,
+    ) -> Result<Self, AllocError>
+        ensures linked { S.has_given stream [] → S.has_got stream [] → IfOk result (λ link. IsLinked S.has_given S.has_got link request.now []) }
+        ensures progress { IfOk result (λ link. link.progress ≡ progress) }
+    {
+        let spare = request.share()?;
+        let mut flow = Flow::opening(alloc, stream);
+        flow.send(request)?;
+        Ok(OriginLink {
+            flow,
+            spare: Some(spare),
+            progress,
+        })
+    }
+
+    /// Whether it isn't known to work yet.
+    pub(crate) fn is_opening(&self) -> bool
+        ensures { result ≡ is_some self.now.spare }
+    {
+        self.spare.is_some()
+    }
+
+    /// What is heard there now: nothing, until it is known to work, but that it has failed.
+    pub(crate) fn hear(
+        &mut self,
+        alloc: Global,
+        buffer: &mut [u8],
+        tick: u64,
+    ) -> Result<Heard, AllocError>
+        ensures heard { (sent heard : List ℕ) → IsLinked S.has_given S.has_got self.old sent heard
+            → GivesHeard (IsLinked S.has_given S.has_got self.new sent) result heard }
+        ensures reason { IsRead (HasFailed S.has_failed self.old.flow self.new.flow) result }
+        ensures over { IsEndOf (S.has_ended self.new.flow.stream) result }
+        ensures fails { FailsOnly S.has_failed (IsErr result) self.old.flow self.new.flow }
+        ensures rest { self.new ≡ record self.old { flow = self.new.flow; progress = progress_behind result tick self.old.progress } }
+        ensures begun { self.new.progress.begun ≡ self.old.progress.begun }
+    {
+        if !self.is_opening() {
+            return self.read(alloc, buffer, tick);
+        }
+        if self.flow.has_failed() {
+            return Ok(Heard::Lost(Reason::Reset));
+        }
+        Ok(Heard::Nothing)
+    }
+
+    /// What a read brings, where it is known to work.
+    fn read(&mut self, alloc: Global, buffer: &mut [u8], tick: u64) -> Result<Heard, AllocError>
+        ensures heard { is_some self.old.spare ≡ false → (sent heard : List ℕ) → IsLinked S.has_given S.has_got self.old sent heard
+            → GivesHeard (IsLinked S.has_given S.has_got self.new sent) result heard }
+        ensures reason { IsRead (HasFailed S.has_failed self.old.flow self.new.flow) result }
+        ensures over { IsEndOf (S.has_ended self.new.flow.stream) result }
+        ensures fails { FailsOnly S.has_failed (IsErr result) self.old.flow self.new.flow }
+        ensures rest { self.new ≡ record self.old { flow = self.new.flow; progress = progress_behind result tick self.old.progress } }
+        ensures begun { self.new.progress.begun ≡ self.old.progress.begun }
+    {
+        let heard = hear_flow(alloc, &mut self.flow, buffer)?;
+        self.progress = self.progress.moved(heard.has_octets(), tick);
+        Ok(heard)
+    }
+
+    /// Writes what is owed, as far as it is taken now: nothing, until the link is known to work.
+    pub(crate) fn write(&mut self, tick: u64) -> Emptying
+        ensures kept { (sent heard : List ℕ) → IsLinked S.has_given S.has_got self.old sent heard → IsLinked S.has_given S.has_got self.new sent heard }
+        ensures owed { TellsOwed (Some result) (is_owed self.new.flow) }
+        ensures fails { FailsOnly S.has_failed ⊥ self.old.flow self.new.flow }
+        ensures rest { self.new ≡ record self.old { flow = self.new.flow; progress = progress_written result (length self.old.flow.outbox) (length self.new.flow.outbox) tick self.old.progress } }
+        ensures begun { self.new.progress.begun ≡ self.old.progress.begun }
+    {
+        if !self.is_opening() {
+            return self.write_on(tick);
+        }
+        if self.flow.has_failed() {
+            return Emptying::Failed;
+        }
+        Emptying::Later
+    }
+
+    /// The same, where it is known to work.
+    fn write_on(&mut self, tick: u64) -> Emptying
+        ensures kept { is_some self.old.spare ≡ false → (sent heard : List ℕ) → IsLinked S.has_given S.has_got self.old sent heard
+            → IsLinked S.has_given S.has_got self.new sent heard }
+        ensures owed { TellsOwed (Some result) (is_owed self.new.flow) }
+        ensures fails { FailsOnly S.has_failed ⊥ self.old.flow self.new.flow }
+        ensures rest { self.new ≡ record self.old { flow = self.new.flow; progress = progress_written result (length self.old.flow.outbox) (length self.new.flow.outbox) tick self.old.progress } }
+        ensures begun { self.new.progress.begun ≡ self.old.progress.begun }
+    {
+        let before = self.flow.held();
+        let emptying = self.flow.write();
+        let still = self.flow.held();
+        self.progress = self.progress.written(emptying, before, still, tick);
+        emptying
+    }
+
+    /// What the system tells of it. It is known to work once something is told without a failure. Behind that a failure is
+    /// left to the next read, since what came before it counts.
+    pub(crate) fn learn(&mut self, readiness: Readiness)
+        ensures kept { (sent heard : List ℕ) → IsLinked S.has_given S.has_got self.old sent heard → IsLinked S.has_given S.has_got self.new sent heard }
+        ensures fails { FailsOnly S.has_failed ((is_some self.old.spare && readiness.failed) ≡ true) self.old.flow self.new.flow }
+        ensures rest { self.new ≡ record self.old { flow = self.new.flow; spare = spare_behind readiness self.old.spare } }
+    {
+        if !self.is_opening() {
+            self.flow.learn(left_to_read(readiness));
+            return;
+        }
+        self.flow.learn(readiness);
+        if readiness.failed {
+            return;
+        }
+        if readiness.writable | readiness.readable | readiness.ended {
+            self.spare = None;
+        }
+    }
+
+    /// Takes the request back, where the link has failed before it was known to work.
+    pub(crate) fn take_back(&mut self) -> Option<MessageText>
+        ensures kept { (sent heard : List ℕ) → IsLinked S.has_given S.has_got self.old sent heard → IsLinked S.has_given S.has_got self.new sent heard }
+        ensures back { (sent heard : List ℕ) → IsLinked S.has_given S.has_got self.old sent heard
+            → IfSome result (λ request. IsUnused S.has_given S.has_got self.old × (heard ≡ []) × (sent ≡ request)) }
+        ensures rest { self.new ≡ record self.old { spare = self.new.spare } }
+        ensures none { result ≡ None → self.new ≡ self.old }
+    {
+        if !self.flow.has_failed() {
+            return None;
+        }
+        self.spare.take()
+    }
+
+    /// The stream, where the link works: our half is ended, and what waits is dropped.
+    pub(crate) fn into_lingering(self) -> Option<S>
+        ensures { is_some result ≡ (not (is_some self.spare) && not self.flow.failed) }
+    {
+        if self.is_opening() {
+            return None;
+        }
+        if self.flow.has_failed() {
+            return None;
+        }
+        let mut stream = self.into_flow().into_stream();
+        stream.end();
+        Some(stream)
+    }
+
+    /// The stream, and what waits to be written there.
+    fn into_flow(self) -> Flow<S>
+        ensures { result ≡ self.flow }
+    {
+        let OriginLink {
+            flow,
+            spare,
+            progress: _,
+        } = self;
+        drop(spare);
+        flow
+    }
+
+    /// How the forward is getting on there.
+    pub(crate) fn progress(&self) -> Progress
+        ensures { result ≡ self.now.progress }
+    {
+        self.progress
+    }
+
+    /// Whether octets wait to be written.
+    pub(crate) fn is_owed(&self) -> bool
+        ensures { result ≡ is_owed self.now.flow }
+    {
+        self.flow.is_owed()
+    }
+
+    /// How many octets of memory are held for what is owed, and for the request.
+    pub(crate) fn weight(&self) -> usize
+        ensures { is_owed self.now.flow ≡ true → 0 < result }
+    {
+        match &self.spare {
+            Some(request) => self.flow.weight().saturating_add(weight_of(request)),
+            None => self.flow.weight(),
+        }
+    }
+
+    /// Whether a read may bring something now.
+    pub(crate) fn is_readable(&self) -> bool
+        ensures { result ≡ self.now.flow.readable }
+    {
+        self.flow.is_readable()
+    }
+}
+
+/// What is told of a link that works: that it has failed is left to the next read or write.
+fn left_to_read(readiness: Readiness) -> Readiness
+    ensures failed { result.failed ≡ false }
+    ensures ended { result.ended ≡ readiness.ended }
+    ensures ready { (result.readable ≡ (readiness.readable || readiness.failed)) × (result.writable ≡ (readiness.writable || readiness.failed)) }
+{
+    Readiness {
+        readable: readiness.readable | readiness.failed,
+        writable: readiness.writable | readiness.failed,
+        ended: readiness.ended,
+        failed: false,
+    }
+}

@@ -1,0 +1,58 @@
+//! What is heard of a link, as it is told.
+
+ghost use Rattle.std.specs.Prelude.{◌≡◌, Ok};
+ghost use Rattle.hc_peers.specs.Heard.{told, told_of_client, told_of_forward};
+
+use hc_events::Happening;
+use hc_flow::Heard;
+use hc_link_traits::Happened;
+use hc_order::{Reason, Receiver};
+
+/// What is heard of a link, as something that happens. A client's link is never lost: its end is told.
+pub fn happened(link: Receiver, heard: Heard) -> Option<Happened>
+    ensures { Ok result ≡ told link (Ok heard) }
+{
+    match link {
+        Receiver::Client(number) => of_client(number, heard),
+        Receiver::Origin(forward) => of_forward(forward, heard),
+    }
+}
+
+/// What is heard of a client.
+fn of_client(number: u64, heard: Heard) -> Option<Happened>
+    ensures { result ≡ told_of_client number heard }
+{
+    match heard {
+        Heard::Octets(octets) => Some(Happened {
+            of: Happening::ClientBytes(number, octets),
+            reason: Reason::Peer,
+        }),
+        Heard::End(reason) => Some(Happened {
+            of: Happening::ClientEnd(number),
+            reason,
+        }),
+        Heard::Lost(_) => None,
+        Heard::Nothing => None,
+    }
+}
+
+/// What is heard of a forward.
+fn of_forward(forward: u64, heard: Heard) -> Option<Happened>
+    ensures { result ≡ told_of_forward forward heard }
+{
+    match heard {
+        Heard::Octets(octets) => Some(Happened {
+            of: Happening::OriginBytes(forward, octets),
+            reason: Reason::Peer,
+        }),
+        Heard::End(reason) => Some(Happened {
+            of: Happening::OriginEnd(forward),
+            reason,
+        }),
+        Heard::Lost(reason) => Some(Happened {
+            of: Happening::OriginFailed(forward),
+            reason,
+        }),
+        Heard::Nothing => None,
+    }
+}

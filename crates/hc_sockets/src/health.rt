@@ -1,0 +1,96 @@
+//! Whether the system still does what serving needs.
+
+use std::cell::Cell;
+use std::io;
+use std::time::Duration;
+
+/// So many polls may fail in a row before serving ends.
+const MOST_IN_A_ROW: u64 = 100;
+
+/// Why the system lets nobody be served any more.
+#[derive(Clone, Copy)]
+pub(crate) enum Breakdown {
+    /// It couldn't say what is ready, for this reason.
+    Poll(io::Error),
+    /// Its clock that is never set couldn't be read, for this reason.
+    Clock(io::Error),
+}
+
+/// Whether the system still does what serving needs. The sockets note it, and whoever serves looks at it.
+#[derive(Drop)]
+pub struct Health {
+    /// How many polls have failed.
+    failed: Cell<u64>,
+    /// How many of them have in a row, up to the last poll.
+    in_a_row: Cell<u64>,
+    /// What the clock that is never set told last.
+    last: Cell<Duration>,
+    /// Why serving ends, if it does.
+    end: Cell<Option<Breakdown>>,
+}
+
+impl Health {
+    /// Nothing has failed.
+    pub fn new() -> Self {
+        Health {
+            failed: Cell::new(0),
+            in_a_row: Cell::new(0),
+            last: Cell::new(Duration::ZERO),
+            end: Cell::new(None),
+        }
+    }
+
+    /// A poll came to that.
+    pub(crate) fn note_poll(&self, polled: io::Result<()>) {
+        match polled {
+            Ok(()) => self.in_a_row.set(0),
+            Err(reason) => self.note_failed_poll(reason),
+        }
+    }
+
+    /// A poll failed, for this reason.
+    fn note_failed_poll(&self, reason: io::Error) {
+        self.failed.set(self.failed.get().saturating_add(1));
+        let in_a_row = self.in_a_row.get().saturating_add(1);
+        self.in_a_row.set(in_a_row);
+        if in_a_row >= MOST_IN_A_ROW {
+            self.break_down(Breakdown::Poll(reason));
+        }
+    }
+
+    /// The clock that is never set told that. Returns it, or where it couldn't be read what it told last.
+    pub(crate) fn note_clock(&self, told: io::Result<Duration>) -> Duration {
+        match told {
+            Ok(now) => {
+                self.last.set(now);
+                now
+            }
+            Err(reason) => {
+                self.break_down(Breakdown::Clock(reason));
+                self.last.get()
+            }
+        }
+    }
+
+    /// Serving ends for this reason, if it doesn't end for another one already.
+    fn break_down(&self, breakdown: Breakdown) {
+        if self.end.get().is_none() {
+            self.end.set(Some(breakdown));
+        }
+    }
+
+    /// How many polls have failed.
+    pub(crate) fn failed_polls(&self) -> u64 {
+        self.failed.get()
+    }
+
+    /// Why serving ends, if it does.
+    pub(crate) fn end(&self) -> Option<Breakdown> {
+        self.end.get()
+    }
+
+    /// Whether serving ends.
+    pub(crate) fn ends(&self) -> bool {
+        self.end.get().is_some()
+    }
+}
