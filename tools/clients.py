@@ -2,6 +2,7 @@
 
 import collections
 import concurrent.futures
+import contextlib
 import fnmatch
 import hashlib
 import itertools
@@ -69,6 +70,10 @@ def request(path, *lines, method="GET", body=b"", version="1.1"):
     return "\r\n".join(head).encode("latin-1") + body
 
 
+KEPT = request("/kept/0")
+HALVES = KEPT[:20], KEPT[20:]  # of which a client that is in the midst of a request has sent the first
+
+
 class Client:
     """A connection of a client."""
 
@@ -92,6 +97,15 @@ class Client:
     def drip(self, octets):
         for octet in octets:
             self.link.sendall(bytes([octet]))
+
+    def listen(self, seconds):
+        """Waits so long, or until something comes, which is kept. It may be no end."""
+        self.link.settimeout(seconds)
+        with contextlib.suppress(TimeoutError):
+            piece = self.link.recv(1 << 18)
+            want("no end", piece)
+            self.came += piece
+        self.link.settimeout(LIMIT)
 
     def ends_writing(self):
         self.link.shutdown(socket.SHUT_WR)
@@ -126,6 +140,43 @@ class Client:
     def is_over(self):
         """Whether nothing comes any more."""
         return not self.came and not self.link.recv(1)
+
+    def is_cut_off(self):
+        """The same, be it by a reset."""
+        with contextlib.suppress(ConnectionError):
+            return self.is_over()
+        return True
+
+
+def all_asking(stack, port, paths, *lines):
+    """Clients that have asked, each for a path. One that was refused before may be unable to."""
+    clients = [stack.enter_context(Client(port)) for _ in paths]
+    for client, path in zip(clients, paths):
+        with contextlib.suppress(ConnectionError):
+            client.send(request(path, *lines))
+    return clients
+
+
+def answered(port, path, most=LIMIT):
+    """The status that a new client gets, or why it gets none in so many seconds, and how long it waits."""
+    begun = time.monotonic()
+    try:
+        with Client(port) as client:
+            client.link.settimeout(most)
+            told = client.ask(path, "Connection: close").status
+    except (OSError, Wrong) as trouble:
+        told = type(trouble).__name__
+    return told, time.monotonic() - begun
+
+
+def busy_clients(stack, port, count):
+    """Clients that have been answered, and are in the midst of another request, so that none of them gives way."""
+    clients = all_asking(stack, port, ["/kept/0"] * count)
+    for client in clients:
+        want("a reply", client.reply().status == 200)
+        client.send(HALVES[0])
+    time.sleep(1)
+    return clients
 
 
 def fill(client, paths):
@@ -508,6 +559,41 @@ class Asker:
                     return self.replies
                 self.seen[path] += 1
                 self.replies += 1
+
+
+class Trusting(Asker):
+    """A client that asks on its connection until a reply tells it that this closes, and never tries again. A request
+    behind which no whole reply of 200 comes is lost."""
+
+    def __init__(self, port, number):
+        super().__init__(port, number)
+        self.lost = self.told_at = self.open_at = None  # why, and the moments of its last reply and of the one before
+
+    def path(self):
+        """Of a hit, a miss, and what comes late, by turns."""
+        which = self.replies
+        own = f"{self.number}-{which}"
+        return (f"/kept/{which % 5}", f"/kept/{own}", f"/late/{own}/300")[which % 3]
+
+    def ask_on(self):
+        with self.client as client:
+            while not (self.told_at or self.lost):
+                path = self.path()
+                try:
+                    self.hear(path, client.ask(path))
+                except (OSError, Wrong) as trouble:
+                    self.lost = f"{path}: {type(trouble).__name__} {trouble}"
+            return self.replies
+
+    def hear(self, path, reply):
+        want(f"200: {reply.status}", reply.status == 200)
+        self.seen[path] += 1
+        self.replies += 1
+        if not reply.closes():
+            self.open_at = time.monotonic()
+            return
+        self.told_at = time.monotonic()
+        want("that it closes", self.client.is_cut_off())
 
 
 # -- Batches of requests, of which every tenth is for a target that nobody asked for

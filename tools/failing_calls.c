@@ -1,6 +1,7 @@
-/* Put before a program by LD_PRELOAD, it has calls of the system fail: the file that FAILING_CALLS names has two numbers of
-   eight octets each, which may change while the program runs. So many further calls of epoll_wait fail, or all where that
-   is negative; and the clock that is never set can't be read where the second isn't 0. */
+/* Put before a program by LD_PRELOAD, it has calls of the system fail: the file that FAILING_CALLS names has three numbers
+   of eight octets each, which may change while the program runs. So many further calls of epoll_wait fail, or all where
+   that is negative; the clock that is never set can't be read where the second isn't 0; and by the third each call of
+   write takes so many milliseconds more, if it is to a file on a disk. */
 
 #define _GNU_SOURCE
 #include <errno.h>
@@ -9,6 +10,7 @@
 #include <stdlib.h>
 #include <sys/epoll.h>
 #include <sys/mman.h>
+#include <sys/stat.h>
 #include <sys/syscall.h>
 #include <time.h>
 #include <unistd.h>
@@ -20,7 +22,7 @@ __attribute__((constructor)) static void find_failing(void) {
     int file = name ? open(name, O_RDWR) : -1;
     if (file < 0)
         return;
-    void *found = mmap(NULL, 2 * sizeof *failing, PROT_READ | PROT_WRITE, MAP_SHARED, file, 0);
+    void *found = mmap(NULL, 3 * sizeof *failing, PROT_READ | PROT_WRITE, MAP_SHARED, file, 0);
     if (found != MAP_FAILED)
         failing = found;
     close(file);
@@ -42,4 +44,13 @@ int clock_gettime(clockid_t clock, struct timespec *now) {
         return -1;
     }
     return (int)syscall(SYS_clock_gettime, clock, now);
+}
+
+ssize_t write(int file, const void *octets, size_t count) {
+    struct stat found;
+    if (failing && failing[2] != 0 && fstat(file, &found) == 0 && S_ISREG(found.st_mode)) {
+        struct timespec pause = {failing[2] / 1000, failing[2] % 1000 * 1000000};
+        nanosleep(&pause, NULL);
+    }
+    return syscall(SYS_write, file, octets, count);
 }

@@ -53,6 +53,36 @@ def drips_interim(origin, link, *_):
         time.sleep(PAUSE)
 
 
+def streams(origin, link, head, _):
+    """Events without end, as of a server that sends them."""
+    drips_until_left(origin, link, head, {"transfer-encoding": "chunked"}, b"1\r\n.\r\n")
+
+
+def streams_at_length(origin, link, head, _):
+    """The same of a body whose length is told, which never comes to it."""
+    drips_until_left(origin, link, head, {"content-length": LONGEST}, b".")
+
+
+def drips_until_left(origin, link, head, fields, piece):
+    """Its path is among those that stream until the other side has left."""
+    path = path_of(head)
+    origin.streaming.add(path)
+    try:
+        link.sendall(with_head(200, {"content-type": "text/event-stream", **fields}, b""))
+        while not is_left_within(link, PAUSE):
+            link.sendall(piece)
+    finally:
+        origin.streaming.discard(path)
+
+
+def is_left_within(link, seconds):
+    """Whether the other side, which says nothing more, leaves in that time."""
+    link.settimeout(seconds)
+    with contextlib.suppress(TimeoutError):
+        return not link.recv(1)
+    return False
+
+
 def sends_without_end(link, octets):
     for _ in range(100_000):
         link.sendall(octets)
@@ -160,6 +190,7 @@ FALTERING = (hangs, drips, garbage, cuts, resets)
 WAYS = {way.__name__.replace("_", "-"): way for way in (
     hangs, hangs_in_its_head, hangs_in_its_body, drips, drips_interim, interim_without_end, head_without_end, longest,
     too_long, too_long_in_chunks, too_long_until_its_end, answers_early, answers_early_and_reads, swallows, heavy,
+    streams, streams_at_length,
 )} | {f"falters-{way.__name__}": falters(way) for way in FALTERING}
 
 
@@ -175,6 +206,10 @@ def kind_of(link):
 
 
 class HostileOrigin(Origin):
+    def __init__(self):
+        self.streaming = set()  # the paths of streams that go on
+        super().__init__()
+
     def serve(self, link):
         link.settimeout(LIMIT)
         way = None

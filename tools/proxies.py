@@ -1,7 +1,9 @@
 """A running `hcache proxy` for tools that try it, what its recording tells, and origins of processes of their own."""
 
 import collections
+import concurrent.futures
 import contextlib
+import functools
 import os
 import pathlib
 import re
@@ -14,7 +16,7 @@ import threading
 import time
 
 import programs
-from clients import LIMIT, Wrong, want
+from clients import LIMIT, Asker, Wrong, want
 from small_origin import HOST
 
 HCACHE = []  # the words by which it is run
@@ -22,9 +24,11 @@ TOOLS = pathlib.Path(__file__).resolve().parent
 AT_ONCE = 0.5  # seconds within which a reply that waits for nothing comes
 LINGERS = 3  # seconds that may pass behind a stop beside its drain
 DRAIN = 8  # seconds of a drain, where none are said
+WAIT = 2  # seconds that may pass behind a deadline
 
 LISTENING = re.compile(r"hcache: listening at (.+), before (.+), with a store of (\d+) keys and (\d+) bytes")
 FAILED = re.compile(r"hcache: (.+): (\d+) (?:forwards?|links?)")
+WRONG = re.compile(r"hcache: (requests were refused|responses failed), since (.+): (\d+) times?, the last (.+)")
 
 Record = collections.namedtuple("Record", "kind number octets")
 
@@ -33,6 +37,14 @@ def words_of(origin, record=None, *words, listen=f"{HOST}:0"):
     recorded = ["--record", record] if record else []
     words = [*HCACHE, "proxy", "--listen", listen, "--origin", origin, *recorded, *words]
     return list(map(str, words))
+
+
+@functools.cache
+def options_of_proxy():
+    """Those that the program's help tells."""
+    words = [*map(str, HCACHE), "proxy", "--help"]
+    said = subprocess.run(words, capture_output=True, text=True, check=False).stdout
+    return set(re.findall(r"--[a-z-]+", said))
 
 
 def limited(files):
@@ -85,10 +97,20 @@ class Proxy:
 
     def failures(self):
         """What it said of links that failed: kinds and how many."""
-        lines = [line for line in self.said if not LISTENING.fullmatch(line)]
+        lines = [line for line in self.said if not LISTENING.fullmatch(line) and not WRONG.fullmatch(line)]
         found = [FAILED.fullmatch(line) for line in lines]
         want(f"lines that are known: {lines}", all(found))
         return [(it[1], int(it[2])) for it in found]
+
+    def wrongs(self):
+        """What it said of requests that it refused and of responses that failed: what befell, why, how often in all, and
+        where it was last."""
+        told = {}
+        for line in self.said:
+            if found := WRONG.fullmatch(line):
+                befell, why, count, last = found.groups()
+                told[befell, why] = (told.get((befell, why), (0,))[0] + int(count), last)
+        return told
 
     def resident(self):
         """Its resident memory, in KiB."""
@@ -154,6 +176,61 @@ def records(octets):
         yield Record(kind.decode(), int(number), octets[end + 1 : place - 1])
 
 
+def right_or_torn(record):
+    """Whether it is torn in its last record; else it is right."""
+    line, faults = judged(record)
+    is_torn = re.fullmatch(r"malformed \d+ 3 Torn", line)
+    want(f"yes, or torn at its end: {line} {faults}", is_torn or line.startswith("yes "))
+    return bool(is_torn)
+
+
+def is_recorded(record, seen):
+    """As many replies for each path as clients have whole."""
+    asked, told = {}, collections.Counter()
+    for it in records(record.read_bytes()):
+        if it.kind == "q":
+            asked[it.number] = it.octets.split(b" ", 2)[1].decode()
+        elif it.kind == "a":
+            told[asked[it.number]] += 1
+    want(f"each reply that was seen is recorded: {seen - told} isn't", seen <= told)
+
+
+def ends_of_forwards(record):
+    """For each method and path what its forwards came to: an r for a response, and an x where there was none."""
+    asked, ends = {}, collections.defaultdict(str)
+    for it in records(record.read_bytes()):
+        if it.kind == "f":
+            asked[it.number] = b" ".join(it.octets.split(b" ", 2)[:2]).decode()
+        elif it.kind in "rx":
+            ends[asked[it.number]] += it.kind
+    return dict(ends)
+
+
+def kinds_of_files(room):
+    """Names of files of each kind that isn't recorded to."""
+    pipe, folder, path = room / "pipe", room / "folder", room / "socket"
+    os.mkfifo(pipe)
+    folder.mkdir()
+    with socket.socket(socket.AF_UNIX) as it:
+        it.bind(str(path))
+    return {"a pipe": pipe, "a directory": folder, "a socket": path, "a device": "/dev/zero"}
+
+
+@contextlib.contextmanager
+def askers(proxy, count, kind=Asker):
+    """Clients that ask until they are cut off, or end by themselves. In the end all have."""
+    asking = [kind(proxy.port, number) for number in range(count)]
+    with concurrent.futures.ThreadPoolExecutor(count) as pool:
+        runs = [pool.submit(asker.ask_on) for asker in asking]
+        try:
+            yield asking
+        except BaseException:
+            proxy.ran.kill()
+            raise
+        for run in runs:
+            run.result()
+
+
 # -- Origins
 
 
@@ -178,6 +255,14 @@ def full_queue():
             link.setblocking(False)
             link.connect_ex(listener.getsockname())
         yield f"{HOST}:{listener.getsockname()[1]}"
+
+
+def seconds_until(is_so, most):
+    """Waits until it is so, that long at most. Answers the seconds that passed."""
+    begun = time.monotonic()
+    while not is_so() and time.monotonic() < begun + most:
+        time.sleep(0.02)
+    return time.monotonic() - begun
 
 
 def timed(ask):

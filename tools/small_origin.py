@@ -168,6 +168,8 @@ ANSWERS = {
     "large": lambda asked: response(asked, pattern(last_number(asked.path)), cache_control="max-age=3600"),
     "slow": lives("max-age=3600"),
     "slow-private": lives("private, max-age=3600"),
+    "late": lives("max-age=3600"),
+    "late-again": lives("max-age=1, stale-while-revalidate=60"),
     "hung": lives("max-age=1, stale-while-revalidate=600"),
     "hung-first": lives("max-age=3600"),
     "failing": failing,
@@ -251,6 +253,8 @@ class Origin:
         kind = asked.path.split("/")[1]
         if kind.startswith("slow"):
             time.sleep(PAUSE)
+        if kind == "late" or (kind == "late-again" and asked.before):
+            time.sleep(last_number(asked.path) / 1000)
         if (kind == "hung" and asked.before) or kind == "hung-first":
             self.released.wait()
         link.sendall(ANSWERS[kind](asked))

@@ -1,8 +1,8 @@
 //! What is to be done with links, and when.
 
-ghost use Rattle.std.specs.Prelude.{◌≤◌, IfSome};
+ghost use Rattle.std.specs.Prelude.{◌≡◌, ◌≤◌, IfSome, true};
 
-use crate::deadlines::{Deadline, Deadlines, Timeout};
+use crate::deadlines::{Deadline, Deadlines, Timeout, earlier};
 use crate::turns::Turns;
 use hc_order::Receiver;
 use std::alloc::{AllocError, Global};
@@ -18,6 +18,8 @@ pub struct Agenda {
     owed: VecDeque<Receiver>,
     /// When links are to be looked at.
     deadlines: Deadlines,
+    /// When forwards are looked at for which nobody may wait any more, if they are.
+    sweep: Option<u64>,
     /// Whether memory was refused for a note.
     refused: bool,
 }
@@ -29,6 +31,7 @@ impl Agenda {
             turns: Turns::new(alloc),
             owed: VecDeque::new(alloc),
             deadlines: Deadlines::new(alloc),
+            sweep: None,
             refused: false,
         }
     }
@@ -94,6 +97,30 @@ impl Agenda {
         self.deadlines.pass(timeout, tick)
     }
 
+    /// Clients have left who may have waited for forwards: these are looked at by that millisecond at the latest.
+    pub fn sweep_by(&mut self, tick: u64) {
+        self.sweep = earlier(self.sweep, Some(tick));
+    }
+
+    /// Whether forwards are to be looked at by that millisecond. Then they aren't again, until that is noted anew.
+    pub fn takes_sweep(&mut self, tick: u64) -> bool
+        ensures { result ≡ true → IfSome self.old.sweep (λ due. due ≤ tick) }
+    {
+        let Some(due) = self.sweep else {
+            return false;
+        };
+        if due > tick {
+            return false;
+        }
+        self.sweep = None;
+        true
+    }
+
+    /// The guest that has been silent for longest, and when its time is over.
+    pub fn longest_silent_guest(&self) -> Option<Deadline> {
+        self.deadlines.first_of(Timeout::Guest)
+    }
+
     /// The client that has lingered for longest.
     pub fn longest_lingering(&self) -> Option<u64> {
         match self.deadlines.first_of(Timeout::ClientLingering) {
@@ -122,9 +149,9 @@ impl Agenda {
         self.deadlines.remove(Timeout::OriginLingering, forward);
     }
 
-    /// The millisecond at which the first deadline of all is due.
+    /// The millisecond at which the first deadline of all is due, or forwards are to be looked at.
     pub fn first(&self) -> Option<u64> {
-        self.deadlines.first()
+        earlier(self.deadlines.first(), self.sweep)
     }
 
     /// Memory was refused for a note of what is to be done that is kept elsewhere.

@@ -22,10 +22,12 @@ pub enum Failure {
     Unfinished,
     /// So much was held that it was cut off.
     Heavy,
+    /// Nobody waited for it any more.
+    Abandoned,
 }
 
 impl Failure {
-    /// Why that is told: the time for something was over, a link failed, or too much was held.
+    /// Why that is told: the time for something was over, a link failed, too much was held, or nobody waited.
     pub fn reason(self) -> Reason
         ensures { result ≡ reason_of self }
     {
@@ -37,6 +39,7 @@ impl Failure {
             Failure::Silent => Reason::Late,
             Failure::Unfinished => Reason::Late,
             Failure::Heavy => Reason::Held,
+            Failure::Abandoned => Reason::Abandoned,
         }
     }
 }
@@ -58,6 +61,8 @@ pub struct Failures {
     pub unfinished: u64,
     /// So much was held that the link was cut off, a forward's or a client's.
     pub heavy: u64,
+    /// Nobody waited for it any more.
+    pub abandoned: u64,
 }
 
 impl Failures {
@@ -71,6 +76,7 @@ impl Failures {
             silent: 0,
             unfinished: 0,
             heavy: 0,
+            abandoned: 0,
         }
     }
 
@@ -84,6 +90,7 @@ impl Failures {
             Failure::Silent => self.silent = self.silent.saturating_add(1),
             Failure::Unfinished => self.unfinished = self.unfinished.saturating_add(1),
             Failure::Heavy => self.heavy = self.heavy.saturating_add(1),
+            Failure::Abandoned => self.abandoned = self.abandoned.saturating_add(1),
         }
     }
 

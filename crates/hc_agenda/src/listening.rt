@@ -8,6 +8,8 @@ const MOST_ACCEPTED: u32 = 256;
 enum Gate {
     /// Some may have connected.
     Ready,
+    /// One has connected at least, as was told.
+    Known,
     /// None has connected, until that is told.
     Idle,
     /// Some may have connected, but the system has no place for a further link.
@@ -22,6 +24,8 @@ pub struct Listening {
     gate: Gate,
     /// So many more may be accepted in this batch.
     left: u32,
+    /// Nobody is turned away before that millisecond: somebody will have been silent for long enough to give way.
+    held_until: Option<u64>,
 }
 
 impl Listening {
@@ -30,12 +34,18 @@ impl Listening {
         Listening {
             gate: Gate::Ready,
             left: MOST_ACCEPTED,
+            held_until: None,
         }
     }
 
     /// Whether a client may have connected.
     pub fn is_ready(&self) -> bool {
-        self.gate == Gate::Ready
+        self.gate == Gate::Ready || self.is_known()
+    }
+
+    /// Whether it was told that a client has connected, and none was accepted since.
+    pub fn is_known(&self) -> bool {
+        self.gate == Gate::Known
     }
 
     /// Whether none has connected, as far as is known, or no further one can.
@@ -56,18 +66,39 @@ impl Listening {
     /// A new batch begins.
     pub fn begin_batch(&mut self) {
         self.left = MOST_ACCEPTED;
+        self.held_until = None;
     }
 
-    /// Clients may have connected.
+    /// In this batch nobody is turned away: clients wait until that millisecond, when somebody may give way.
+    pub fn hold(&mut self, until: u64) {
+        self.held_until = Some(until);
+    }
+
+    /// Until when clients wait, if they do in this batch.
+    pub fn held_until(&self) -> Option<u64> {
+        self.held_until
+    }
+
+    /// It is told that a client has connected.
     pub fn wake(&mut self) {
+        if self.gate == Gate::Idle || self.gate == Gate::Ready {
+            self.gate = Gate::Known;
+        }
+    }
+
+    /// Clients may have connected who weren't told of yet.
+    pub fn look(&mut self) {
         if self.gate == Gate::Idle {
             self.gate = Gate::Ready;
         }
     }
 
-    /// A client was accepted.
+    /// A client was accepted. Further ones may have connected.
     pub fn accepted(&mut self) {
         self.left = self.left.saturating_sub(1);
+        if self.gate == Gate::Known {
+            self.gate = Gate::Ready;
+        }
     }
 
     /// No client connects now.

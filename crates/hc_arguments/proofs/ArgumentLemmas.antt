@@ -47,7 +47,7 @@ use Rattle.hc_arguments.specs.Commands.{hcache}
 use Rattle.hc_arguments.specs.Limits.{AsksLimits, AsksPatience, AsksTerms, limit_in, plain_limits, plain_patience, plain_terms}
 use Rattle.hc_arguments.specs.Origins.{is_origin}
 use Rattle.hc_arguments.specs.Positions.{len_before_hyphen, positive_of, span_between, span_from, span_of}
-use Rattle.hc_arguments.specs.Tables.{Command, caching, command_named, connect_timeout, drain_timeout, entries_of, held, idle_timeout, max_connections}
+use Rattle.hc_arguments.specs.Tables.{Command, abandoned, caching, command_named, connect_timeout, drain_timeout, entries_of, held, idle_timeout, max_connections}
 use Rattle.hc_arguments.specs.Tables.{origin_connections, origin_timeout, origin_total, proxying, queue_timeout, reporting, request_timeout, send_timeout, serving, taken_by}
 use Rattle.hc_arguments.specs.Tables.{explaining_form}
 use Rattle.hc_arguments.specs.Tables.Command.{Audits, Reports, Explains, Shows, Replays, Converts, Serves, Proxies}
@@ -119,10 +119,11 @@ patience_from value = option_map (λ p. record {
   send_timeout = p.0.1.1;
   queue_timeout = p.1.0;
   origin_timeout = p.1.1.0;
-  origin_total = p.1.1.1;
+  origin_total = p.1.1.1.0;
+  abandoned = p.1.1.1.1;
 })
     (both (both (limit_in value idle_timeout 75) (both (limit_in value request_timeout 60) (limit_in value send_timeout 60)))
-    (both (limit_in value queue_timeout 5) (both (limit_in value origin_timeout 60) (limit_in value origin_total 600))))
+    (both (limit_in value queue_timeout 5) (both (limit_in value origin_timeout 60) (both (limit_in value origin_total 600) (limit_in value abandoned 5)))))
 
 abbrev limits_from : (Text → Option Text) → Option ProxyLimits
 limits_from value = option_map (λ p. record {
@@ -202,10 +203,11 @@ patience_given value patience a =
       send_timeout = p.0.1.1;
       queue_timeout = p.1.0;
       origin_timeout = p.1.1.0;
-      origin_total = p.1.1.1;
+      origin_total = p.1.1.1.0;
+      abandoned = p.1.1.1.1;
     })
     (both (both (a.idle_timeout_is i) (both (a.request_timeout_is i) (a.send_timeout_is i)))
-    (both (a.queue_timeout_is i) (both (a.origin_timeout_is i) (a.origin_total_is i))))
+    (both (a.queue_timeout_is i) (both (a.origin_timeout_is i) (both (a.origin_total_is i) (a.abandoned_is i)))))
 
 limits_given : (value : Text → Option Text) (limits : ProxyLimits) → AsksLimits value limits → limits_from value ≡ Some limits
 limits_given value limits a =
@@ -375,10 +377,13 @@ proxying_fine value listen origin file terms limits keeps_cookies settings a =
                                 (
                                   within 1 86400 600 (codes "origin-total") limits.patience.origin_total p.origin_total_is,
                                   (
-                                    within 0 86400 8 (codes "drain-timeout") limits.drain_timeout l.drain_timeout_is,
+                                    within 1 86400 5 (codes "abandoned") limits.patience.abandoned p.abandoned_is,
                                     (
-                                      numbered_if_given 1 greatest_number limits.clients (value (codes "connections")) l.clients_are,
-                                      (any_fine taken_by taken_by_judges (value (codes "store-set-cookie")), tt),
+                                      within 0 86400 8 (codes "drain-timeout") limits.drain_timeout l.drain_timeout_is,
+                                      (
+                                        numbered_if_given 1 greatest_number limits.clients (value (codes "connections")) l.clients_are,
+                                        (any_fine taken_by taken_by_judges (value (codes "store-set-cookie")), tt),
+                                      ),
                                     ),
                                   ),
                                 ),
@@ -953,6 +958,7 @@ module _ (name listen origin : Text) where
     queue_timeout_is = refl;
     origin_timeout_is = refl;
     origin_total_is = refl;
+    abandoned_is = refl;
   }
 
   no_limits : AsksLimits (value_in (subcommand_of hcache (name ∷ proxy_words listen origin))) plain_limits

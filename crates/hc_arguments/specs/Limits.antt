@@ -9,7 +9,7 @@ use Rattle.hc_options.specs.Values.{flag_by, number_by, number_or}
 use Rattle.hc_arguments.specs.declared.order.ProxyLimits.{ProxyLimits}
 use Rattle.hc_arguments.specs.declared.order.ProxyPatience.{ProxyPatience}
 use Rattle.hc_arguments.specs.declared.order.RecordTerms.{RecordTerms}
-use Rattle.hc_arguments.specs.Tables.{connect_timeout, drain_timeout, held, idle_timeout, max_connections, origin_connections}
+use Rattle.hc_arguments.specs.Tables.{abandoned, connect_timeout, drain_timeout, held, idle_timeout, max_connections, origin_connections}
 use Rattle.hc_arguments.specs.Tables.{origin_timeout, origin_total, queue_timeout, request_timeout, send_timeout}
 
 -- a row takes numbers or sizes
@@ -43,6 +43,7 @@ pub record AsksPatience (value : Text → Option Text) (patience : ProxyPatience
   pub queue_timeout_is : limit_in value queue_timeout 5 ≡ Some patience.queue_timeout
   pub origin_timeout_is : limit_in value origin_timeout 60 ≡ Some patience.origin_timeout
   pub origin_total_is : limit_in value origin_total 600 ≡ Some patience.origin_total
+  pub abandoned_is : limit_in value abandoned 5 ≡ Some patience.abandoned
 
 -- and all its limits
 pub record AsksLimits (value : Text → Option Text) (limits : ProxyLimits) : Type 0 where
@@ -68,6 +69,7 @@ plain_patience = record {
   queue_timeout = 5;
   origin_timeout = 60;
   origin_total = 600;
+  abandoned = 5;
 }
 
 abbrev pub plain_limits : ProxyLimits

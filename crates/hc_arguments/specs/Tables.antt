@@ -88,6 +88,9 @@ origin_timeout = option (codes "origin-timeout") (Number 1 86400)
 abbrev pub origin_total : Entry
 origin_total = option (codes "origin-total") (Number 1 86400)
 
+abbrev pub abandoned : Entry
+abandoned = option (codes "abandoned") (Number 1 86400)
+
 abbrev pub drain_timeout : Entry
 drain_timeout = option (codes "drain-timeout") (Number 0 86400)
 
@@ -95,7 +98,7 @@ drain_timeout = option (codes "drain-timeout") (Number 0 86400)
 abbrev pub proxying : List Entry
 proxying = wanted (codes "listen") AnyText ∷ wanted (codes "origin") OriginAddress ∷ option (codes "record") AnyText
     ∷ option (codes "record-limit") (Size 0) ∷ flag (codes "record-strict") ∷ max_connections ∷ origin_connections ∷ held
-    ∷ idle_timeout ∷ request_timeout ∷ send_timeout ∷ queue_timeout ∷ connect_timeout ∷ origin_timeout ∷ origin_total ∷ drain_timeout
+    ∷ idle_timeout ∷ request_timeout ∷ send_timeout ∷ queue_timeout ∷ connect_timeout ∷ origin_timeout ∷ origin_total ∷ abandoned ∷ drain_timeout
     ∷ option (codes "connections") (Number 1 greatest_number) ∷ flag (codes "store-set-cookie") ∷ []
 
 -- what a cache is

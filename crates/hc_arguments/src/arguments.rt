@@ -27,7 +27,7 @@ use crate::order::{
 use crate::origins::is_origin;
 use crate::positions::span_of;
 use crate::rows::{
-    CLIENTS, CONNECT_TIMEOUT, CONNECTIONS, DRAIN_TIMEOUT, EXPLAINED, HELD, IDLE_TIMEOUT,
+    ABANDONED, CLIENTS, CONNECT_TIMEOUT, CONNECTIONS, DRAIN_TIMEOUT, EXPLAINED, HELD, IDLE_TIMEOUT,
     MAX_CONNECTIONS, ORIGIN, ORIGIN_CONNECTIONS, ORIGIN_TIMEOUT, ORIGIN_TOTAL, POSITION,
     QUEUE_TIMEOUT, RECORD_LIMIT, REQUEST_TIMEOUT, SEND_TIMEOUT, SPAN,
 };
@@ -327,6 +327,7 @@ fn patience_in(found: &ArgMatches<'_>) -> Result<ProxyPatience, Refusal>
         queue_timeout: limit_in(found, &QUEUE_TIMEOUT, 5)?,
         origin_timeout: limit_in(found, &ORIGIN_TIMEOUT, 60)?,
         origin_total: limit_in(found, &ORIGIN_TOTAL, 600)?,
+        abandoned: limit_in(found, &ABANDONED, 5)?,
     })
 }
 

@@ -158,4 +158,6 @@ pub struct ProxyPatience {
     pub origin_timeout: u64,
     /// So long the origin may take until its response is whole.
     pub origin_total: u64,
+    /// So long a request to the origin may go on for which no client waits any more.
+    pub abandoned: u64,
 }

@@ -264,6 +264,15 @@ pub(crate) const ORIGIN_TOTAL: Row = Row {
     help: "The seconds that the origin may take until its response is whole: a decimal from 1 to 86400, and 600 without the option",
 };
 
+pub(crate) const ABANDONED: Row = Row {
+    name: "abandoned",
+    kind: Kind::Valued,
+    value: "N",
+    takes: Takes::Number(1, 86_400),
+    required: false,
+    help: "The seconds for which a request to the origin goes on for which no client waits any more: a decimal from 1 to 86400, and 5 without the option",
+};
+
 pub(crate) const DRAIN_TIMEOUT: Row = Row {
     name: "drain-timeout",
     kind: Kind::Valued,
@@ -295,7 +304,7 @@ const STORE_SET_COOKIE: Row = Row {
 };
 
 /// Between whom a proxy stands, where and how far that is recorded, within which limits, and what it stores beside the usual.
-pub(crate) const PROXYING: [Row; 18] = [
+pub(crate) const PROXYING: [Row; 19] = [
     LISTEN,
     ORIGIN,
     RECORD_IF_GIVEN,
@@ -311,6 +320,7 @@ pub(crate) const PROXYING: [Row; 18] = [
     CONNECT_TIMEOUT,
     ORIGIN_TIMEOUT,
     ORIGIN_TOTAL,
+    ABANDONED,
     DRAIN_TIMEOUT,
     CLIENTS,
     STORE_SET_COOKIE,

@@ -9,7 +9,7 @@ use Rattle.std.specs.Map.{lookup}
 use Rattle.std.specs.Ordering.{eq_by_cmp, nat_cmp}
 use Rattle.std.specs.declared.alloc.AllocError.{AllocError}
 use Rattle.hc_events.specs.declared.Happening.{Happening}
-use Rattle.hc_events.specs.declared.Happening.TheVariants.{ClientOpened, ClientBytes, ClientEnd, OriginBytes, OriginEnd, OriginFailed}
+use Rattle.hc_events.specs.declared.Happening.TheVariants.{ClientOpened, ClientBytes, ClientEnd, OriginBytes, OriginEnd, OriginFailed, Stopping}
 use Rattle.hc_link_traits.specs.declared.happened.Happened.{Happened}
 use Rattle.hc_link_traits.specs.declared.reading.Came.{Came}
 use Rattle.hc_link_traits.specs.declared.reading.Came.TheVariants.{Octets, End, Failure}
@@ -104,6 +104,7 @@ of_client has_given has_got links (ClientOpened c) reason its log none kept = ab
 of_client has_given has_got links (OriginBytes f octets) reason its log none kept = absurd its
 of_client has_given has_got links (OriginEnd f) reason its log none kept = absurd its
 of_client has_given has_got links (OriginFailed f) reason its log none kept = absurd its
+of_client has_given has_got links Stopping reason its log none kept = absurd its
 
 pub client_heard : {L : Type 0} (has_given has_got : L → List ℕ → Type 0) (links : BTreeMap ℕ (Option L)) (result : Result (Option Happened) AllocError)
     → IfOk result (λ perhaps. IfSome perhaps (λ happened. IsOfClient happened.of)) → (log : List Move) → NoneOpen log → AreKept has_given has_got links log

@@ -2,7 +2,7 @@
 use Rattle.std.proofs.Common.{◌≡◌, ℕ, ◌<◌, ◌==◌, ◌||◌, Bool, true, false, cond, List, [], ◌∷◌, Option, Some, None, nat_eq, refl, sym, ap, ◌∙◌, subst, arith}
 use Rattle.std.proofs.lemmas.Bool.Decides.{nat_tests}
 use Rattle.hc_events.specs.declared.Happening.{Happening}
-use Rattle.hc_events.specs.declared.Happening.TheVariants.{ClientOpened, ClientBytes, ClientEnd, OriginBytes, OriginEnd, OriginFailed}
+use Rattle.hc_events.specs.declared.Happening.TheVariants.{ClientOpened, ClientBytes, ClientEnd, OriginBytes, OriginEnd, OriginFailed, Stopping}
 use Rattle.hc_service.specs.Follows.{opened_by, lost_by}
 use Rattle.hc_order.specs.declared.occurrence.Occurrence.{Occurrence}
 use Rattle.hc_order.specs.Log.{Move}
@@ -29,6 +29,7 @@ kept_open c (ClientEnd d) = refl
 kept_open c (OriginBytes f octets) = refl
 kept_open c (OriginEnd f) = refl
 kept_open c (OriginFailed f) = refl
+kept_open c Stopping = refl
 
 same_itself : (n : ℕ) → nat_eq n n ≡ true
 same_itself n = grind (arith, nat_tests)
@@ -83,6 +84,7 @@ still_underway f (OriginFailed g) was now on is = by (nat_eq g f) is
     by : (b : Bool) → cond b false was ≡ true → cond b false now ≡ true
     by true e = absurd (cc)
     by false e = on e
+still_underway f Stopping was now on is = on is
 
 by_sent : (b was now : Bool) → (was ≡ true → now ≡ true) → cond b true was ≡ true → cond b true now ≡ true
 by_sent true was now on is = refl
@@ -131,3 +133,4 @@ next_may true c occurrence log was next o own in_time = by occurrence.event.of n
     by (OriginBytes f octets) next its read end = open_underway f log next.0
     by (OriginEnd f) next its read end = open_underway f log next.0
     by (OriginFailed f) next its read end = open_underway f log next
+    by Stopping next its read end = absurd its

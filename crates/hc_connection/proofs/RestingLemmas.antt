@@ -5,7 +5,7 @@ use Rattle.std.proofs.lemmas.Bool.{eqb-true}
 use Rattle.std.proofs.lemmas.Bool.Decides.{nat_tests}
 use Rattle.hc_transcript.specs.declared.record.Record.{Record}
 use Rattle.hc_events.specs.declared.Happening.{Happening}
-use Rattle.hc_events.specs.declared.Happening.TheVariants.{ClientOpened, ClientBytes, ClientEnd, OriginBytes, OriginEnd, OriginFailed}
+use Rattle.hc_events.specs.declared.Happening.TheVariants.{ClientOpened, ClientBytes, ClientEnd, OriginBytes, OriginEnd, OriginFailed, Stopping}
 use Rattle.hc_service.specs.declared.action.Action.{Action}
 use Rattle.hc_service.specs.declared.action.Action.TheVariants as action
 use Rattle.hc_service.specs.declared.settings.CoreSettings.{CoreSettings}
@@ -50,6 +50,7 @@ open_heard f occurrence log = by occurrence.event.of
     by (OriginBytes g octets) = refl
     by (OriginEnd g) = refl
     by (OriginFailed g) = refl
+    by Stopping = refl
 
 open_passed : (f : ℕ) (occurrences : List Occurrence) (results : List StepResult) (log : List Move) → AreServed results
     → is_open_in f (passed occurrences results log) ≡ open_behind_all f (events_of occurrences) results (is_open_in f log)
@@ -78,6 +79,7 @@ ended_heard c occurrence log = by occurrence.event.of
     by (OriginBytes g octets) = refl
     by (OriginEnd g) = refl
     by (OriginFailed g) = refl
+    by Stopping = refl
 
 ended_passed : (c : ℕ) (occurrences : List Occurrence) (results : List StepResult) (log : List Move) → AreServed results
     → is_ended_in c (passed occurrences results log) ≡ ended_behind_all c (events_of occurrences) results (is_ended_in c log)
@@ -110,6 +112,7 @@ its_own n c (Heard occurrence ∷ log) own is = by occurrence.event.of own.0 is 
     by (OriginBytes g octets) of_it is rest = rest is
     by (OriginEnd g) of_it is rest = rest is
     by (OriginFailed g) of_it is rest = rest is
+    by Stopping of_it is rest = absurd of_it
 its_own n c (Sent to octets ∷ log) own is = its_own n c log own is
 its_own n c (Closed (Client d) ∷ log) own is = by (nat_eq d c) is (λ was. its_own n c log own was)
   where
@@ -150,6 +153,7 @@ closed_heard room n occurrence log may of_it stays = by occurrence.event.of may 
     by (OriginBytes g octets) may of_it = record { last = stays.last; closed = stays.closed }
     by (OriginEnd g) may of_it = record { last = stays.last; closed = stays.closed }
     by (OriginFailed g) may of_it = record { last = stays.last; closed = stays.closed }
+    by Stopping may of_it = absurd of_it
 
 of_carried : (n : ℕ) (actions : List Action) (log : List Move) → AreOf n (carried actions log) → AreOf n log
 of_carried n [] log own = own

@@ -4,7 +4,7 @@ use Rattle.std.specs.declared.alloc.AllocError.{AllocError}
 use Rattle.std.specs.BTreeMap.{BTreeMap, get}
 use Rattle.std.specs.Ordering.{nat_cmp}
 use Rattle.hc_events.specs.declared.Happening.{Happening}
-use Rattle.hc_events.specs.declared.Happening.TheVariants.{ClientOpened, ClientBytes, ClientEnd, OriginBytes, OriginEnd, OriginFailed}
+use Rattle.hc_events.specs.declared.Happening.TheVariants.{ClientOpened, ClientBytes, ClientEnd, OriginBytes, OriginEnd, OriginFailed, Stopping}
 use Rattle.hc_link_traits.specs.declared.reading.Came.{Came}
 use Rattle.hc_link_traits.specs.declared.reading.Came.TheVariants.{Octets, End, Failure}
 use Rattle.hc_link_traits.specs.declared.happened.Happened.{Happened}
@@ -74,13 +74,14 @@ AreKept has_given has_got links log =
 
 -- ---- in which order links are read
 
--- octets, or an end, come of the open forward of the least number, a failure of one that is open; the client's octets where none is; and the client opens its connection where nothing has happened
+-- octets, or an end, come of the open forward of the least number, a failure of one that is open; the client's octets where none is; and the client opens its connection where nothing has happened; a stop never comes
 abbrev pub IsNext : Happening → List Move → Type 0
 IsNext (ClientOpened c) log = first_in log ≡ None
 IsNext (ClientBytes c octets) log = NoneOpen log
 IsNext (OriginBytes f octets) log = IsLeastOpen f log
 IsNext (OriginEnd f) log = IsLeastOpen f log
 IsNext (OriginFailed f) log = is_open_in f log ≡ true
+IsNext Stopping log = ⊥
 IsNext other log = Unit {0}
 
 abbrev pub AreInOrder : List Move → Type 0

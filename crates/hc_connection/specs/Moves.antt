@@ -1,9 +1,9 @@
 -- What passes at the links of a connection. The newest move comes first.
 use Rattle.std.specs.Prelude.{◌≡◌, ℕ, ◌+◌, ◌<◌, ◌≤◌, ◌==◌, ◌||◌, Bool, true, false, List, [], ◌∷◌, ◌++◌, length, Option, Some, None, if◌then◌else◌}
 use Rattle.hc_events.specs.declared.Happening.{Happening}
-use Rattle.hc_events.specs.declared.Happening.TheVariants.{ClientOpened, ClientBytes, ClientEnd, OriginBytes, OriginEnd, OriginFailed}
+use Rattle.hc_events.specs.declared.Happening.TheVariants.{ClientOpened, ClientBytes, ClientEnd, OriginBytes, OriginEnd, OriginFailed, Stopping}
 use Rattle.hc_order.specs.declared.occurrence.Reason.{Reason}
-use Rattle.hc_order.specs.declared.occurrence.Reason.TheVariants.{Peer, Replies, Reads, Stop, Late, Reset, Held}
+use Rattle.hc_order.specs.declared.occurrence.Reason.TheVariants.{Peer, Replies, Reads, Stop, Late, Reset, Held, Displaced, Abandoned}
 use Rattle.hc_order.specs.declared.receiver.Receiver.{Receiver}
 use Rattle.hc_order.specs.declared.receiver.Receiver.TheVariants.{Client, Origin}
 use Rattle.hc_order.specs.Log.{Move}
@@ -13,7 +13,7 @@ use Rattle.hc_link_traits.specs.Links.{most_octets}
 
 -- ---- the client of a connection
 
--- what happens to clients happens to that one
+-- what happens to clients happens to that one, and no stop is told
 abbrev pub IsOf : ℕ → Happening → Type 0
 IsOf c (ClientOpened d) = d ≡ c
 IsOf c (ClientBytes d octets) = d ≡ c
@@ -21,6 +21,7 @@ IsOf c (ClientEnd d) = d ≡ c
 IsOf c (OriginBytes f octets) = Unit {0}
 IsOf c (OriginEnd f) = Unit {0}
 IsOf c (OriginFailed f) = Unit {0}
+IsOf c Stopping = ⊥
 
 abbrev pub AreOf : ℕ → List Move → Type 0
 AreOf c [] = Unit {0}
@@ -177,6 +178,8 @@ is_of_reads Stop = false
 is_of_reads Late = false
 is_of_reads Reset = false
 is_of_reads Held = false
+is_of_reads Displaced = false
+is_of_reads Abandoned = false
 
 -- something was told for that
 abbrev pub is_spent_in : List Move → Bool
@@ -199,6 +202,8 @@ EndsFor c Stop log = ⊥
 EndsFor c Late log = ⊥
 EndsFor c Reset log = ⊥
 EndsFor c Held log = ⊥
+EndsFor c Displaced log = ⊥
+EndsFor c Abandoned log = ⊥
 
 -- a forward's failure is told for the reads, or because it failed, while links are read still
 abbrev pub FailsFor : Reason → List Move → Type 0
@@ -209,12 +214,15 @@ FailsFor Stop log = ⊥
 FailsFor Late log = ⊥
 FailsFor Reset log = ⊥
 FailsFor Held log = ⊥
+FailsFor Displaced log = ⊥
+FailsFor Abandoned log = ⊥
 
--- all else is told because the other side did it: it opens a connection, or is read
+-- no stop is told; all else is told because the other side did it: it opens a connection, or is read
 abbrev pub HappensFor : ℕ → Happening → Reason → List Move → Type 0
 HappensFor c (ClientEnd d) reason log = EndsFor c reason log
 HappensFor c (OriginFailed f) reason log = FailsFor reason log
 HappensFor c (ClientOpened d) reason log = reason ≡ Peer
+HappensFor c Stopping reason log = ⊥
 HappensFor c other reason log = (reason ≡ Peer) × AreRead log
 
 -- each is told for its reason

@@ -1,10 +1,12 @@
 -- What the calls of a crowd's traffic keep goes on from one to the next.
-use Rattle.std.proofs.Common.{◌≡◌, ℕ, Bool, true, false, List, Option, None, Result, Ok, Err, refl, sym, true≢false}
+use Rattle.std.proofs.Common.{◌≡◌, ℕ, Bool, true, false, List, Option, Some, None, Result, Ok, Err, arith, refl, sym, subst, true≢false}
+use Rattle.hc_events.specs.declared.Happening.TheVariants.{Stopping}
 use Rattle.std.specs.declared.alloc.AllocError.{AllocError}
 use Rattle.hc_link_traits.specs.declared.happened.Happened.{Happened}
+use Rattle.hc_peers.specs.declared.client.Hearing.{Hearing}
 use Rattle.hc_peers.specs.declared.peers.Peers.{Peers}
 use Rattle.hc_order.specs.declared.occurrence.Reason.{Reason}
-use Rattle.hc_order.specs.declared.occurrence.Reason.TheVariants.{Peer, Replies, Reads, Stop, Late, Reset, Held}
+use Rattle.hc_order.specs.declared.occurrence.Reason.TheVariants.{Peer, Replies, Reads, Stop, Late, Reset, Held, Displaced, Abandoned}
 use Rattle.hc_flow.specs.declared.heard.Heard.{Heard}
 use Rattle.hc_flow.specs.declared.heard.Heard.TheVariants.{Octets, End, Lost, Nothing}
 use Rattle.hc_peers.specs.Heard.{IsAnswerOf, NoAnswer}
@@ -137,26 +139,36 @@ module _ {S : Type 0} {has_given has_got : S → List ℕ → Type 0} where
     shown = heard.shown;
   }
 
+  -- a stop is told at any time, and is of no link
+  pub hears_stop : {most : ℕ} {awaited : ℕ → Bool → Type 0} {before after : Peers S} → after ≡ before
+      → HearsWithin has_given has_got most awaited (Ok (Some (record { of = Stopping; reason = Stop }))) before after
+  hears_stop {most} {awaited} {before} {after} same = subst (λ (peers : Peers S). HearsWithin has_given has_got most awaited (Ok (Some (record { of = Stopping; reason = Stop }))) before peers) (sym same) (record {
+    tells = λ origin log t moment. record { clients = t.clients; forwards = t.forwards; guests = t.guests; last = t.last; count = omega (arith, t.count); few = t.few };
+    may = λ origin log t. tt;
+    in_turn = tt;
+    shown = λ log s. s;
+  })
+
 -- ---- reasons
 
--- that a time is over may be more than the reason that was told
-ended_for : (stops late more_late cut : Bool) (F G : Type 0) (reason : Reason) → (late ≡ true → more_late ≡ true) → (F → G) → IsHeardFor stops late cut F (Ok (End reason))
-    → IsHeardFor stops more_late cut G (Ok (End reason))
-ended_for stops late more_late cut F G Peer by_time fails is = is
-ended_for stops late more_late cut F G Replies by_time fails is = is
-ended_for stops late more_late cut F G Reads by_time fails is = is
-ended_for stops late more_late cut F G Stop by_time fails is = is
-ended_for stops late more_late cut F G Late by_time fails is = by_time is
-ended_for stops late more_late cut F G Reset by_time fails is = fails is
-ended_for stops late more_late cut F G Held by_time fails is = is
+-- a client is heard for a reason, whatever says that its link has failed
+ended_for : (hearing : Hearing) (cut : Bool) (F G : Type 0) (reason : Reason) → (F → G) → IsHeardFor hearing cut F (Ok (End reason)) → IsHeardFor hearing cut G (Ok (End reason))
+ended_for hearing cut F G Peer fails is = is
+ended_for hearing cut F G Replies fails is = is
+ended_for hearing cut F G Reads fails is = is
+ended_for hearing cut F G Stop fails is = is
+ended_for hearing cut F G Late fails is = is
+ended_for hearing cut F G Reset fails is = fails is
+ended_for hearing cut F G Held fails is = is
+ended_for hearing cut F G Displaced fails is = is
+ended_for hearing cut F G Abandoned fails is = is
 
-pub heard_for : (stops late more_late cut : Bool) (F G : Type 0) (result : Result Heard AllocError) → (late ≡ true → more_late ≡ true) → (F → G) → IsHeardFor stops late cut F result
-    → IsHeardFor stops more_late cut G result
-heard_for stops late more_late cut F G (Ok (Octets octets)) by_time fails is = is
-heard_for stops late more_late cut F G (Ok (End reason)) by_time fails is = ended_for stops late more_late cut F G reason by_time fails is
-heard_for stops late more_late cut F G (Ok (Lost reason)) by_time fails is = is
-heard_for stops late more_late cut F G (Ok Nothing) by_time fails is = tt
-heard_for stops late more_late cut F G (Err refused) by_time fails is = tt
+pub heard_for : (hearing : Hearing) (cut : Bool) (F G : Type 0) (result : Result Heard AllocError) → (F → G) → IsHeardFor hearing cut F result → IsHeardFor hearing cut G result
+heard_for hearing cut F G (Ok (Octets octets)) fails is = is
+heard_for hearing cut F G (Ok (End reason)) fails is = ended_for hearing cut F G reason fails is
+heard_for hearing cut F G (Ok (Lost reason)) fails is = is
+heard_for hearing cut F G (Ok Nothing) fails is = tt
+heard_for hearing cut F G (Err refused) fails is = tt
 
 -- what is told at once where a time is over is told where that is sure
 pub told_at_once : (cut late surely_late : Bool) (result : Result Heard AllocError) → (surely_late ≡ true → late ≡ true) → IsToldAtOnce cut late result → IsToldAtOnce cut surely_late result

@@ -1,2 +1,3 @@
 pub mod CrowdLemmas
 pub mod KeepingLemmas
+pub mod LighteningLemmas

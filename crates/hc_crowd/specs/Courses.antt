@@ -7,6 +7,7 @@ use Rattle.hc_flow.specs.declared.pace.Pace.{Pace}
 use Rattle.hc_flow.specs.declared.pace.Pace.TheVariants.{Idle, Asking, Taking}
 use Rattle.hc_flow.specs.declared.patience.Patience.{Patience}
 use Rattle.hc_flow.specs.declared.progress.Progress.{Progress}
+use Rattle.hc_peers.specs.declared.client.Hearing.{Hearing}
 use Rattle.hc_peers.specs.declared.peers.Peers.{Peers}
 use Rattle.hc_peers.specs.Tables.{is_there_and}
 use Rattle.hc_peers.specs.Hearings.{HasFailedAt}
@@ -14,18 +15,27 @@ use Rattle.hc_peers.specs.Known.{known_at}
 use Rattle.hc_peers.specs.Forwards.{is_linked_and, is_waiting, progress_at}
 use Rattle.hc_peers.specs.Peers.{is_client_overdue}
 use Rattle.hc_crowd.specs.declared.course.Course.{Course}
-use Rattle.hc_crowd.specs.declared.course.Course.TheVariants.{Serving, Stopping, Late}
+use Rattle.hc_crowd.specs.declared.course.Course.TheVariants.{Serving, Ceasing, Draining, Late}
 
 -- whether a stop was asked
 abbrev pub stops : Course → Bool
 stops Serving = false
-stops (Stopping tick) = true
+stops (Ceasing idle_until until) = true
+stops (Draining until) = true
 stops Late = true
+
+-- whether clients end that are idle
+abbrev pub ends_idle : Course → Bool
+ends_idle Serving = false
+ends_idle (Ceasing idle_until until) = false
+ends_idle (Draining until) = true
+ends_idle Late = true
 
 -- whether the time behind a stop is over, too
 abbrev pub is_late : Course → Bool
 is_late Serving = false
-is_late (Stopping tick) = false
+is_late (Ceasing idle_until until) = false
+is_late (Draining until) = false
 is_late Late = true
 
 -- whether a client is idle
@@ -38,13 +48,9 @@ is_idle_pace (Taking since) = false
 abbrev pub is_idle : {S : Type 0} → Peers S → ℕ → Bool
 is_idle peers number = is_there_and (known_at number peers.clients.links) (λ client. is_idle_pace client.pace)
 
--- whether a client is there who wasn't read yet
-abbrev pub is_fresh : {S : Type 0} → Peers S → ℕ → Bool
-is_fresh peers number = is_there_and (known_at number peers.clients.links) (λ client. client.fresh)
-
--- whether a stop ends a client of whom nothing is awaited: not one that wasn't read yet
+-- whether a stop ends a client: one that is idle, once such ones end
 abbrev pub is_stop_for : {S : Type 0} → Course → Peers S → (number : ℕ) → Bool
-is_stop_for course peers number = stops course && not (is_fresh peers number)
+is_stop_for course peers number = ends_idle course && is_idle peers number
 
 -- the link of a client has failed by then
 abbrev pub FailsAt : {S : Type 0} → (S → Type 0) → ℕ → (before after : Peers S) → Type 0
@@ -57,6 +63,12 @@ is_over_for course peers number awaited tick patience = is_late course || (not a
 -- whether it is whatever has come of it: an idle client may be read still, where octets of it have come
 abbrev pub is_over_in_any_case : {S : Type 0} → Course → Peers S → (number : ℕ) → (awaited : Bool) → (tick : ℕ) → Patience → Bool
 is_over_in_any_case course peers number awaited tick patience = is_late course || (not awaited && (is_client_overdue peers number tick patience && not (is_idle peers number)))
+
+-- what ends a client has its ground in what is known of it: a stop, where it is idle; that its time is over; or that it was asked to give way, where it is idle
+pub record HasGrounds {S : Type 0} (course : Course) (giving_way : Option ℕ) (patience : Patience) (peers : Peers S) (number : ℕ) (hearing : Hearing) : Type 0 where
+  pub stops : hearing.stops ≡ true → is_stop_for course peers number ≡ true
+  pub late : hearing.late ≡ true → is_over_for course peers number hearing.awaited hearing.tick patience ≡ true
+  pub gives_way : hearing.gives_way ≡ true → (giving_way ≡ Some number) × (is_idle peers number ≡ true)
 
 -- as many clients have come as are served
 abbrev pub HaveAllCome : Option ℕ → ℕ → Type 0

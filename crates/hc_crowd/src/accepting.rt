@@ -2,10 +2,12 @@
 
 ghost use Rattle.std.specs.Prelude.{◌≡◌, IfSome, [], false, true};
 
+use crate::displacing::Displacement;
 use crate::limits::Limits;
 use crate::traffic::Traffic;
 use crate::world::{Accepted, World};
 use hc_agenda::Timeout;
+use hc_link_traits::Awaiting;
 use std::alloc::AllocError;
 
 impl<W: World> Traffic<W> {
@@ -49,7 +51,13 @@ impl<W: World> Traffic<W> {
     pub(crate) fn has_arrivals(&self, limits: Limits) -> bool {
         self.listening.is_ready()
             && self.accepts_more(limits)
-            && (self.may_make_room(limits.connections) || self.peers.may_turn_away())
+            && (self.may_make_room(limits.connections) || self.turns_away())
+    }
+
+    /// Whether a client may be turned away now, who has connected: there is room for that, and none waits for somebody to
+    /// give way.
+    fn turns_away(&self) -> bool {
+        self.peers.may_turn_away() && self.listening.held_until().is_none()
     }
 
     /// Whether there is room for a further guest, or a client lingers that can give way.
@@ -63,6 +71,7 @@ impl<W: World> Traffic<W> {
     fn make_room(&mut self, most: usize) -> bool
         ensures kept { KeepsPeers W.Stream.has_given W.Stream.has_got self.old.peers self.new.peers }
         ensures room { result ≡ true → HasRoom self.new.peers most }
+        ensures full { result ≡ false → HasRoom self.new.peers most → ⊥ }
     {
         if self.peers.has_room(most) {
             return true;
@@ -84,19 +93,24 @@ impl<W: World> Traffic<W> {
     }
 
     /// Accepts all who have connected and for whom there is room, as many as are accepted in a batch. Others are turned away.
-    pub(crate) fn accept_all(&mut self, limits: Limits) -> Result<(), AllocError>
+    pub(crate) fn accept_all<A: Awaiting>(
+        &mut self,
+        cache: &A,
+        limits: Limits,
+    ) -> Result<(), AllocError>
         ensures kept { KeepsWithin W.Stream.has_given W.Stream.has_got limits.connections self.old.peers self.new.peers }
     {
         'arrivals: for _ in 0..u64::MAX {
-            if !self.accept(limits)? {
+            if !self.accept(cache, limits)? {
                 return Ok(());
             }
         }
         Ok(())
     }
 
-    /// Accepts a client who has connected, if one is accepted in this batch still. Answers whether one was.
-    fn accept(&mut self, limits: Limits) -> Result<bool, AllocError>
+    /// Accepts a client who has connected, if one is accepted in this batch still. Answers whether a further one may be
+    /// accepted.
+    fn accept<A: Awaiting>(&mut self, cache: &A, limits: Limits) -> Result<bool, AllocError>
         ensures kept { KeepsWithin W.Stream.has_given W.Stream.has_got limits.connections self.old.peers self.new.peers }
     {
         if !self.listening.may_accept() {
@@ -111,7 +125,40 @@ impl<W: World> Traffic<W> {
         if self.make_room(limits.connections) {
             return self.invite(guest, limits);
         }
-        Ok(self.turn_away(guest))
+        Ok(self.find_room(guest, cache, limits))
+    }
+
+    /// There is no room. If a client has connected, who has been silent for longest gives way; where nobody is silent, and
+    /// behind a stop, it is turned away. Answers whether a further one may be accepted.
+    fn find_room<A: Awaiting>(&mut self, guest: u64, cache: &A, limits: Limits) -> bool
+        requires full { HasRoom self.old.peers limits.connections → ⊥ }
+        ensures kept { KeepsPeers W.Stream.has_given W.Stream.has_got self.old.peers self.new.peers }
+    {
+        if self.course.stops() {
+            return self.turn_away(guest, limits.connections);
+        }
+        if self.asks_who_waits() {
+            return false;
+        }
+        match self.displace(cache, limits) {
+            Displacement::Now => true,
+            Displacement::Later => false,
+            Displacement::Nobody => self.turn_away(guest, limits.connections),
+        }
+    }
+
+    /// Whether the system is asked if a client has connected, since that isn't known: nobody gives way to nobody.
+    fn asks_who_waits(&mut self) -> bool
+        ensures peers { self.new.peers ≡ self.old.peers }
+    {
+        if self.listening.is_known() {
+            return false;
+        }
+        if !self.world.ask_for_clients() {
+            return false;
+        }
+        self.listening.rest();
+        true
     }
 
     /// Accepts a client who has connected as a guest of that number: there is room.

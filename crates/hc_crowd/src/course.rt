@@ -1,15 +1,18 @@
 //! How far a crowd has come.
 
-ghost use Rattle.std.specs.Prelude.{◌≡◌, ◌&&◌, not, true};
-ghost use Rattle.hc_crowd.specs.Courses.{is_late, stops};
+ghost use Rattle.std.specs.Prelude.{◌≡◌, true};
+ghost use Rattle.hc_crowd.specs.Courses.{ends_idle, is_late, stops};
 
 /// How far a crowd has come.
 #[derive(Clone, Copy, PartialEq, Eq)]
 pub(crate) enum Course {
     /// Clients are served.
     Serving,
-    /// A stop was asked. What is awaited is served still, until that millisecond.
-    Stopping(u64),
+    /// A stop was asked. Until the first of these milliseconds a client that is idle may ask once more, and until the
+    /// second what is awaited, or has begun to come, is served.
+    Ceasing { idle_until: u64, until: u64 },
+    /// Clients that are idle end. What is awaited, or has begun to come, is served still, until that millisecond.
+    Draining(u64),
     /// The time for that is over.
     Late,
 }
@@ -21,16 +24,22 @@ impl Course {
     {
         match self {
             Course::Serving => false,
-            Course::Stopping(_) => true,
+            Course::Ceasing { .. } => true,
+            Course::Draining(_) => true,
             Course::Late => true,
         }
     }
 
-    /// Whether a stop ends a client of whom nothing is awaited: not one that wasn't read yet.
-    pub(crate) fn ends_client(self, is_fresh: bool) -> bool
-        ensures { result ≡ (stops self && not is_fresh) }
+    /// Whether clients end that are idle.
+    pub(crate) fn ends_idle(self) -> bool
+        ensures { result ≡ ends_idle self }
     {
-        self.stops() && !is_fresh
+        match self {
+            Course::Serving => false,
+            Course::Ceasing { .. } => false,
+            Course::Draining(_) => true,
+            Course::Late => true,
+        }
     }
 
     /// Whether the time for what is awaited is over.
@@ -40,16 +49,18 @@ impl Course {
     {
         match self {
             Course::Serving => false,
-            Course::Stopping(_) => false,
+            Course::Ceasing { .. } => false,
+            Course::Draining(_) => false,
             Course::Late => true,
         }
     }
 
-    /// The millisecond at which that time is over.
+    /// The millisecond at which it goes on by itself.
     pub(crate) fn until(self) -> Option<u64> {
         match self {
             Course::Serving => None,
-            Course::Stopping(tick) => Some(tick),
+            Course::Ceasing { idle_until, .. } => Some(idle_until),
+            Course::Draining(until) => Some(until),
             Course::Late => None,
         }
     }

@@ -4,6 +4,7 @@ ghost use Rattle.std.specs.Prelude.{◌≡◌, [], IfOk};
 
 use crate::limits::Limits;
 use crate::traffic::Traffic;
+use crate::troubles::Troubles;
 use crate::world::World;
 use hc_agenda::{Failures, Moments};
 use hc_events::{Event, Happening};
@@ -92,6 +93,11 @@ impl<W: World> Crowd<W> {
         self.traffic.failures
     }
 
+    /// What was wrong with what came, by kind.
+    pub fn troubles(&self) -> &Troubles {
+        &self.traffic.troubles
+    }
+
     /// The milliseconds that the world's clock has counted which is never set, as it was last looked at.
     pub fn tick(&self) -> u64 {
         self.traffic.tick
@@ -136,6 +142,7 @@ impl<W: World> Links for Crowd<W> {
         match self.traffic.happening(cache, self.limits)? {
             Some(happened) => {
                 self.traffic.holding.grow(octets_of(&happened.of));
+                self.traffic.handed = true;
                 Ok(Some(self.now(happened)))
             }
             None => Ok(None),
@@ -198,5 +205,6 @@ fn octets_of(happening: &Happening) -> usize {
         Happening::OriginBytes(_, octets) => octets.len(),
         Happening::OriginEnd(_) => 0,
         Happening::OriginFailed(_) => 0,
+        Happening::Stopping => 0,
     }
 }

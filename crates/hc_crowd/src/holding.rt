@@ -13,6 +13,8 @@ impl<W: World> Traffic<W> {
     ghost use Rattle.hc_agenda.specs.Loads.{cuts_to, looks_above, most_held};
     ghost use Rattle.hc_peers.specs.Keeping.{KeepsPeers};
     ghost use Rattle.hc_peers.specs.Known.{is_cut_at};
+    ghost use Rattle.hc_peers.specs.Peers.{ChangesOnly};
+    ghost use Rattle.hc_crowd.specs.Lightening.{IsLightened, OthersStay};
 
     /// Where so much may be held that it comes near the limit, each link is looked at, and those that hold most are cut off,
     /// if that has to be.
@@ -88,6 +90,7 @@ impl<W: World> Traffic<W> {
     fn lighten(&mut self, ranking: Ranking, limit: u64)
         ensures kept { KeepsPeers W.Stream.has_given W.Stream.has_got self.old.peers self.new.peers }
         ensures light { most_held self.new.holding ≤ cuts_to limit }
+        ensures cuts { IsLightened (cuts_to limit) ranking.loads.items self.old.peers self.new.peers }
     {
         let most = Holding::cuts_to(limit);
         let mut ranking = ranking;
@@ -100,6 +103,7 @@ impl<W: World> Traffic<W> {
     /// So much is held for a link that it is cut off: what is owed there is lost, and that is told in its turn, at once.
     fn cut_off(&mut self, link: Receiver)
         ensures kept { KeepsPeers W.Stream.has_given W.Stream.has_got self.old.peers self.new.peers }
+        ensures others { OthersStay link self.old.peers self.new.peers }
     {
         self.failures.count(Failure::Heavy);
         self.lose_heavy(link);
@@ -109,6 +113,7 @@ impl<W: World> Traffic<W> {
     /// What is owed at a link is lost, since so much is held for it.
     fn lose_heavy(&mut self, link: Receiver)
         ensures kept { KeepsPeers W.Stream.has_given W.Stream.has_got self.old.peers self.new.peers }
+        ensures only { ChangesOnly link self.old.peers self.new.peers }
     {
         match link {
             Receiver::Client(number) => self.peers.cut_off(number),

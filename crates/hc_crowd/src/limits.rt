@@ -20,6 +20,8 @@ pub struct Limits {
     pub queue_timeout: u64,
     /// So many milliseconds a link to the origin may take to be made.
     pub connect_timeout: u64,
+    /// So many milliseconds a forward may go on for which nobody waits any more.
+    pub abandoned: u64,
     /// So many milliseconds behind a stop what is awaited is served still.
     pub drain_timeout: u64,
     /// Behind so many clients no further one is accepted, and the crowd is over once all have gone.

@@ -4,6 +4,7 @@ ghost use Rattle.std.specs.Prelude.{◌≡◌, IfOk, [], true, ℕ};
 
 use crate::course::Course;
 use crate::limits::Limits;
+use crate::troubles::Troubles;
 use crate::world::World;
 use hc_agenda::{Agenda, Failures, Holding, Listening};
 use hc_order::Receiver;
@@ -25,6 +26,16 @@ pub(crate) struct Traffic<W: World> {
     pub(crate) course: Course,
     pub(crate) holding: Holding,
     pub(crate) failures: Failures,
+    /// What was wrong with what came, as the cache told it.
+    pub(crate) troubles: Troubles,
+    /// Whether something was handed to the cache, and it wasn't asked yet what was wrong with that.
+    pub(crate) handed: bool,
+    /// The client that is asked to give way in this batch, if one is.
+    pub(crate) giving_way: Option<u64>,
+    /// Nobody was silent when all were looked at last, and they aren't looked at again before that millisecond.
+    pub(crate) busy_until: u64,
+    /// Whether the cache was told of a stop.
+    pub(crate) announced: bool,
     /// The millisecond of this batch. Its links are heard, sent to and written to then.
     pub(crate) tick: u64,
 }
@@ -41,12 +52,18 @@ impl<W: World + Drop> Drop for Traffic<W> {
             course: _,
             holding: _,
             failures: _,
+            troubles,
+            handed: _,
+            giving_way: _,
+            busy_until: _,
+            announced: _,
             tick: _,
         } = self;
         drop(world);
         drop(peers);
         drop(buffer);
         drop(agenda);
+        drop(troubles);
     }
 }
 
@@ -70,6 +87,11 @@ impl<W: World + Drop> Traffic<W> {
             course: Course::Serving,
             holding: Holding::new(),
             failures: Failures::new(),
+            troubles: Troubles::new(alloc),
+            handed: false,
+            giving_way: None,
+            busy_until: 0,
+            announced: false,
             tick,
         })
     }
@@ -79,7 +101,7 @@ impl<W: World> Traffic<W> {
     ghost use Rattle.hc_crowd.specs.Courses.{ServesNoMore};
     ghost use Rattle.hc_peers.specs.Keeping.{KeepsPeers};
     ghost use Rattle.hc_peers.specs.Known.{KeepsKnown};
-    ghost use Rattle.hc_peers.specs.Peers.{NoLinkIsLeft, last_given};
+    ghost use Rattle.hc_peers.specs.Peers.{ChangesOnly, NoLinkIsLeft, last_given};
 
     /// It is so late now, by the clock that is never set.
     pub(crate) fn look_at_clock(&mut self)
@@ -101,6 +123,7 @@ impl<W: World> Traffic<W> {
     /// A link is to be heard before all others, in this batch.
     pub(crate) fn give_turn_now(&mut self, link: Receiver)
         ensures kept { KeepsPeers W.Stream.has_given W.Stream.has_got self.old.peers self.new.peers }
+        ensures only { ChangesOnly link self.old.peers self.new.peers }
     {
         self.peers.queue(link);
         self.agenda.give_turn_now(link);

@@ -1,18 +1,20 @@
 //! Links have their turns.
 
-ghost use Rattle.std.specs.Prelude.{◌≡◌, true};
+ghost use Rattle.std.specs.Prelude.{◌≡◌, ◌&&◌, ◌||◌, not, true, Some};
 
 use crate::limits::Limits;
 use crate::traffic::Traffic;
 use crate::world::World;
+use hc_events::Happening;
 use hc_flow::{Heard, Pace, Patience};
 use hc_link_traits::{Awaiting, Happened};
-use hc_order::Receiver;
+use hc_order::{Reason, Receiver};
 use hc_peers::{Hearing, Remainder, happened};
 use std::alloc::AllocError;
 
 impl<W: World> Traffic<W> {
-    ghost use Rattle.hc_crowd.specs.Courses.{FailsAt, is_fresh, is_idle, is_over_for, is_over_in_any_case, is_stop_for};
+    ghost use Rattle.hc_crowd.specs.Courses.{FailsAt, HasGrounds, ends_idle, is_idle, is_over_for, is_over_in_any_case, stops};
+    ghost use Rattle.hc_peers.specs.declared.client.Hearing.{Hearing};
     ghost use Rattle.hc_order.specs.declared.receiver.Receiver.TheVariants.{Client, Origin};
     ghost use Rattle.hc_peers.specs.Heard.{IsAnswerOf, NoAnswer, told};
     ghost use Rattle.hc_peers.specs.Hearings.{IsHeardFor, IsToldAtOnce};
@@ -23,8 +25,9 @@ impl<W: World> Traffic<W> {
     ghost use Rattle.std.specs.BTreeMap.{get};
     ghost use Rattle.std.specs.Ordering.{nat_cmp};
 
-    /// What happens next: something is heard of a link that has its turn in this batch, or octets of a guest have come. Before
-    /// that who has connected is accepted, and what holds too much is cut off.
+    /// What happens next: a stop was asked, which is told before all else, once; something is heard of a link that has its turn
+    /// in this batch; or octets of a guest have come. Before that who has connected is accepted, what holds too much is cut
+    /// off, and forwards are given up for which nobody waits.
     pub(crate) fn happening<A: Awaiting>(
         &mut self,
         cache: &A,
@@ -32,12 +35,46 @@ impl<W: World> Traffic<W> {
     ) -> Result<Option<Happened>, AllocError>
         ensures heard { HearsWithin W.Stream.has_given W.Stream.has_got limits.connections (A.awaited cache.now) result self.old.peers self.new.peers }
     {
-        self.accept_all(limits)?;
+        self.note_incidents(cache);
+        if self.announces_stop() {
+            return Ok(Some(Happened {
+                of: Happening::Stopping,
+                reason: Reason::Stop,
+            }));
+        }
+        self.accept_all(cache, limits)?;
         self.bound_held(cache, limits.held)?;
+        self.give_up_abandoned(cache, limits.abandoned)?;
         if let Some(happened) = self.take_turns(cache, limits)? {
             return Ok(Some(happened));
         }
         self.welcome(limits)
+    }
+
+    /// Counts what was wrong with what was handed to the cache last. Something is handed to it now, or else in a later batch.
+    fn note_incidents<A: Awaiting>(&mut self, cache: &A)
+        ensures kept { KeepsPeers W.Stream.has_given W.Stream.has_got self.old.peers self.new.peers }
+        ensures peers { self.new.peers ≡ self.old.peers }
+        ensures course { (self.new.course ≡ self.old.course) × (self.new.announced ≡ self.old.announced) }
+    {
+        if self.handed {
+            self.troubles.count_all(cache.incidents());
+        }
+        self.handed = false;
+    }
+
+    /// Whether the cache is to be told of a stop now: one was asked, and it wasn't told yet.
+    fn announces_stop(&mut self) -> bool
+        ensures kept { KeepsPeers W.Stream.has_given W.Stream.has_got self.old.peers self.new.peers }
+        ensures peers { self.new.peers ≡ self.old.peers }
+        ensures once { result ≡ (stops self.old.course && not self.old.announced) }
+        ensures told { self.new.announced ≡ (self.old.announced || stops self.old.course) }
+    {
+        if self.announced || !self.course.stops() {
+            return false;
+        }
+        self.announced = true;
+        true
     }
 
     /// What is heard of the next link that has its turn in this batch, and of which something is heard.
@@ -71,7 +108,8 @@ impl<W: World> Traffic<W> {
         match link {
             Receiver::Client(number) => {
                 let awaited = cache.awaits(number);
-                let heard = self.client_turn(number, awaited, limits.patience)?;
+                let begun = cache.held(link) > 0;
+                let heard = self.client_turn(number, awaited, begun, limits.patience)?;
                 Ok(happened(Receiver::Client(number), heard))
             }
             Receiver::Origin(forward) => {
@@ -81,26 +119,82 @@ impl<W: World> Traffic<W> {
         }
     }
 
-    /// What is heard in the turn of a client, of whose requests one awaits its reply or none does.
+    /// What is heard in the turn of a client, of whose requests one awaits its reply or none does, and of whose next request
+    /// something has come or nothing.
     fn client_turn(
         &mut self,
         number: u64,
         awaited: bool,
+        begun: bool,
         patience: Patience,
     ) -> Result<Heard, AllocError>
         ensures heard { Hears W.Stream.has_given W.Stream.has_got (IsAnswerOf number awaited) (told (Client number) result) self.old.peers self.new.peers }
-        ensures reason { IsHeardFor (is_stop_for self.old.course self.old.peers number) (is_over_for self.old.course self.old.peers number awaited self.old.tick patience)
-            (is_cut_at number self.old.peers.clients.links) (FailsAt W.Stream.has_failed number self.old.peers self.new.peers) result }
+        ensures reason { (hearing : Hearing) × HasGrounds self.old.course self.old.giving_way patience self.old.peers number hearing
+            × (hearing.awaited ≡ awaited) × (hearing.tick ≡ self.old.tick)
+            × IsHeardFor hearing (is_cut_at number self.old.peers.clients.links) (FailsAt W.Stream.has_failed number self.old.peers self.new.peers) result }
         ensures at_once { is_open_at number self.old.peers.clients.links ≡ true → IsToldAtOnce (is_cut_at number self.old.peers.clients.links)
             (is_over_in_any_case self.old.course self.old.peers number awaited self.old.tick patience) result }
     {
-        let late = self.is_over_for(number, awaited, patience);
+        let hearing = self.hearing_of(number, awaited, begun, patience);
         self.peers.unqueue(Receiver::Client(number));
         if self.is_closed(number) {
-            self.drop_rest_of_client(number, late);
+            self.drop_rest_of_client(number, hearing.late);
             return Ok(Heard::Nothing);
         }
-        self.hear_client(number, awaited, late)
+        self.hear_client(number, hearing)
+    }
+
+    /// What decides how a client is heard in its turn.
+    fn hearing_of(&self, number: u64, awaited: bool, begun: bool, patience: Patience) -> Hearing
+        ensures grounds { HasGrounds self.now.course self.now.giving_way patience self.now.peers number result }
+        ensures awaited { result.awaited ≡ awaited }
+        ensures tick { result.tick ≡ self.now.tick }
+        ensures sure { is_over_in_any_case self.now.course self.now.peers number awaited self.now.tick patience ≡ true → result.late ≡ true }
+    {
+        let late = self.is_over_for(number, awaited, patience);
+        let stops = self.is_stopped(number, begun);
+        let gives_way = self.gives_way(number, begun);
+        Hearing {
+            awaited,
+            stops,
+            gives_way,
+            late,
+            tick: self.tick,
+        }
+    }
+
+    /// Whether a stop ends a client: one that is idle, and of whose next request nothing has come.
+    fn is_stopped(&self, number: u64, begun: bool) -> bool
+        ensures { result ≡ true → (ends_idle self.now.course && is_idle self.now.peers number) ≡ true }
+    {
+        self.course.ends_idle() && !begun && self.is_silent(number)
+    }
+
+    /// Whether a client was asked to give way, and is idle still.
+    fn gives_way(&self, number: u64, begun: bool) -> bool
+        ensures { result ≡ true → (self.now.giving_way ≡ Some number) × (is_idle self.now.peers number ≡ true) }
+    {
+        let Some(asked) = self.giving_way else {
+            return false;
+        };
+        if asked != number {
+            return false;
+        }
+        !begun && self.is_silent(number)
+    }
+
+    /// Whether a client is idle, and no octets of it have come.
+    fn is_silent(&self, number: u64) -> bool
+        ensures { result ≡ true → is_idle self.now.peers number ≡ true }
+    {
+        let Some(client) = self.peers.clients.get(number) else {
+            return false;
+        };
+        match client.pace() {
+            Pace::Idle(_) => !client.has_octets(),
+            Pace::Asking(_, _) => false,
+            Pace::Taking(_) => false,
+        }
     }
 
     /// Whether there is no more time for a client: behind a stop, or, where no request of it awaits its reply, by how it is
@@ -139,41 +233,22 @@ impl<W: World> Traffic<W> {
         }
     }
 
-    /// Whether a client is there who wasn't read yet.
-    fn is_fresh(&self, number: u64) -> bool
-        ensures { result ≡ is_fresh self.now.peers number }
+    /// What is heard of a client.
+    fn hear_client(&mut self, number: u64, hearing: Hearing) -> Result<Heard, AllocError>
+        ensures heard { Hears W.Stream.has_given W.Stream.has_got (IsAnswerOf number hearing.awaited) (told (Client number) result) self.old.peers self.new.peers }
+        ensures reason { IsHeardFor hearing (is_cut_at number self.old.peers.clients.links) (FailsAt W.Stream.has_failed number self.old.peers self.new.peers) result }
+        ensures at_once { is_open_at number self.old.peers.clients.links ≡ true → IsToldAtOnce (is_cut_at number self.old.peers.clients.links) hearing.late result }
     {
-        match self.peers.clients.get(number) {
-            Some(client) => client.is_fresh(),
-            None => false,
-        }
-    }
-
-    /// What is heard of a client. Behind a stop, too, one that wasn't read yet is read once.
-    fn hear_client(&mut self, number: u64, awaited: bool, late: bool) -> Result<Heard, AllocError>
-        ensures heard { Hears W.Stream.has_given W.Stream.has_got (IsAnswerOf number awaited) (told (Client number) result) self.old.peers self.new.peers }
-        ensures reason { IsHeardFor (is_stop_for self.old.course self.old.peers number) late (is_cut_at number self.old.peers.clients.links) (FailsAt W.Stream.has_failed number self.old.peers self.new.peers) result }
-        ensures at_once { is_open_at number self.old.peers.clients.links ≡ true → IsToldAtOnce (is_cut_at number self.old.peers.clients.links) late result }
-    {
-        let stops = self.course.stops();
-        let is_fresh = self.is_fresh(number);
-        let ends = self.course.ends_client(is_fresh);
-        let hearing = Hearing {
-            awaited,
-            stops: ends,
-            late,
-            tick: self.tick,
-        };
         let heard = self
             .peers
             .hear_client(number, self.buffer.as_mut_slice(), hearing);
-        self.go_on(Receiver::Client(number), &heard, stops && is_fresh);
+        self.go_on(Receiver::Client(number), &heard);
         heard
     }
 
-    /// A link is to be heard again, where more may come behind what was heard, and wherever that is asked for. Where memory
-    /// was refused for what came, the link has failed, which is to be heard.
-    fn go_on(&mut self, link: Receiver, heard: &Result<Heard, AllocError>, in_any_case: bool)
+    /// A link is to be heard again, where more may come behind what was heard. Where memory was refused for what came, the
+    /// link has failed, which is to be heard.
+    fn go_on(&mut self, link: Receiver, heard: &Result<Heard, AllocError>)
         ensures kept { KeepsPeers W.Stream.has_given W.Stream.has_got self.old.peers self.new.peers }
         ensures known { KeepsKnown self.old.peers.clients.links self.new.peers.clients.links }
     {
@@ -182,7 +257,7 @@ impl<W: World> Traffic<W> {
             Ok(_) => self.peers.is_readable(link),
             Err(AllocError) => true,
         };
-        if goes_on || in_any_case {
+        if goes_on {
             self.give_turn(link);
         }
     }
@@ -246,7 +321,7 @@ impl<W: World> Traffic<W> {
         let heard = self
             .peers
             .hear_origin(forward, self.buffer.as_mut_slice(), self.tick);
-        self.go_on(Receiver::Origin(forward), &heard, false);
+        self.go_on(Receiver::Origin(forward), &heard);
         self.failures.break_off(was_linked & is_loss(&heard));
         if !self.peers.forwards.has(forward) {
             self.free_place(forward);

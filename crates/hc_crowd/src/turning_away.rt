@@ -13,10 +13,12 @@ const REFUSED_LINGERS: u64 = 2_000;
 
 impl<W: World> Traffic<W> {
     ghost use Rattle.hc_peers.specs.Keeping.{KeepsPeers};
+    ghost use Rattle.hc_peers.specs.Peers.{HasRoom};
 
-    /// Turns away a client who has connected, as far as there is room for such ones. Answers whether one was. Where there is
-    /// none, clients wait until they are accepted.
-    pub(crate) fn turn_away(&mut self, guest: u64) -> bool
+    /// Turns away a client who has connected, as far as there is room for such ones, where there is none for so many links
+    /// and one more. Answers whether one was. Where there is no room for such ones, clients wait until they are accepted.
+    pub(crate) fn turn_away(&mut self, guest: u64, most: usize) -> bool
+        requires full { HasRoom self.old.peers most → ⊥ }
         ensures kept { KeepsPeers W.Stream.has_given W.Stream.has_got self.old.peers self.new.peers }
     {
         if !self.peers.may_turn_away() {

@@ -11,6 +11,9 @@ use hc_order::{Reason, Receiver};
 /// So many milliseconds are waited for at once at most: then clocks are read again.
 const LONGEST_WAIT: u64 = 1_000;
 
+/// So many milliseconds behind a stop a client that is idle may ask once more: its request may be on its way.
+const IDLE_MAY_ASK: u64 = 1_000;
+
 impl<W: World> Traffic<W> {
     ghost use Rattle.hc_peers.specs.Keeping.{KeepsPeers};
 
@@ -21,11 +24,12 @@ impl<W: World> Traffic<W> {
         let most = self.longest_wait(limits);
         self.world.wait(most);
         self.look_at_clock();
-        self.learn_all();
+        self.learn_all(limits.abandoned);
         // Each time the system may have a place for a client again.
         self.listening.retry();
         self.pass_all(limits);
         self.heed_stop(limits);
+        self.giving_way = None;
         self.listening.begin_batch();
         self.agenda.turns.begin_batch();
     }
@@ -38,32 +42,33 @@ impl<W: World> Traffic<W> {
         if self.has_arrivals(limits) || self.listens_in_vain(limits) {
             return 0;
         }
-        match earlier(self.agenda.first(), self.course.until()) {
+        let due = earlier(self.agenda.first(), self.course.until());
+        match earlier(due, self.listening.held_until()) {
             Some(due) => due.saturating_sub(self.tick).min(LONGEST_WAIT),
             None => LONGEST_WAIT,
         }
     }
 
-    /// Takes in all that became ready.
-    fn learn_all(&mut self)
+    /// Takes in all that became ready. Forwards whose clients leave are looked at so many milliseconds later.
+    fn learn_all(&mut self, abandoned: u64)
         ensures kept { KeepsPeers W.Stream.has_given W.Stream.has_got self.old.peers self.new.peers }
     {
         'ready: for _ in 0..u64::MAX {
             let Some(ready) = self.world.ready() else {
                 return;
             };
-            self.take_in(ready);
+            self.take_in(ready, abandoned);
         }
     }
 
     /// Takes in that this became ready.
-    fn take_in(&mut self, ready: Ready)
+    fn take_in(&mut self, ready: Ready, abandoned: u64)
         ensures kept { KeepsPeers W.Stream.has_given W.Stream.has_got self.old.peers self.new.peers }
     {
         match ready {
             Ready::Clients => self.wake_listening(),
             Ready::Guest(guest, _) => self.learn_of_guest(guest),
-            Ready::Link(link, readiness) => self.learn(link, readiness),
+            Ready::Link(link, readiness) => self.learn(link, readiness, abandoned),
         }
     }
 
@@ -85,11 +90,12 @@ impl<W: World> Traffic<W> {
     }
 
     /// Takes in what the system tells of a link.
-    fn learn(&mut self, link: Receiver, readiness: Readiness)
+    fn learn(&mut self, link: Receiver, readiness: Readiness, abandoned: u64)
         ensures kept { KeepsPeers W.Stream.has_given W.Stream.has_got self.old.peers self.new.peers }
     {
         self.wake_lingering(link);
         self.wake(link, readiness);
+        self.note_leaving(link, readiness, abandoned);
         if readiness.writable && self.peers.is_owed(link) {
             self.agenda.note_owed(link);
         }
@@ -99,7 +105,7 @@ impl<W: World> Traffic<W> {
     fn wake(&mut self, link: Receiver, readiness: Readiness)
         ensures kept { KeepsPeers W.Stream.has_given W.Stream.has_got self.old.peers self.new.peers }
     {
-        if self.peers.learn(link, readiness) {
+        if self.peers.learn(link, readiness, self.tick) {
             self.agenda.give_turn(link);
         }
     }
@@ -135,19 +141,32 @@ impl<W: World> Traffic<W> {
     {
         match self.course {
             Course::Serving => self.heed_world(limits),
-            Course::Stopping(until) => self.heed_time(until),
+            Course::Ceasing { idle_until, until } => self.end_idle(idle_until, until),
+            Course::Draining(until) => self.heed_time(until),
             Course::Late => {}
         }
     }
 
-    /// Where the program was asked to stop, all clients are to be heard: those that nobody has to serve any more end.
+    /// Where the program was asked to stop, clients that are idle may ask once more, for a while.
     fn heed_world(&mut self, limits: Limits)
         ensures kept { KeepsPeers W.Stream.has_given W.Stream.has_got self.old.peers self.new.peers }
     {
         if self.world.stops() {
             // Who has connected by now is accepted still.
-            self.listening.wake();
-            self.course = Course::Stopping(self.due_behind(limits.drain_timeout));
+            self.listening.look();
+            self.course = Course::Ceasing {
+                idle_until: self.due_behind(limits.drain_timeout.min(IDLE_MAY_ASK)),
+                until: self.due_behind(limits.drain_timeout),
+            };
+        }
+    }
+
+    /// Where the time for clients that are idle is over, all are to be heard: those of whom nothing has come end.
+    fn end_idle(&mut self, idle_until: u64, until: u64)
+        ensures kept { KeepsPeers W.Stream.has_given W.Stream.has_got self.old.peers self.new.peers }
+    {
+        if self.tick >= idle_until {
+            self.course = Course::Draining(until);
             self.let_all_knock();
             self.hear_clients();
         }

@@ -1,6 +1,6 @@
 //! Deadlines: who is looked at, and when.
 
-ghost use Rattle.std.specs.Prelude.{◌≡◌, ◌⊎◌, true};
+ghost use Rattle.std.specs.Prelude.{◌≡◌, ◌⊎◌, ◌≤◌, true};
 
 use crate::limits::Limits;
 use crate::traffic::Traffic;
@@ -85,6 +85,7 @@ impl<W: World> Traffic<W> {
 
     /// A deadline has come. Nothing is done where the link has gone or moved on.
     fn end_time(&mut self, deadline: Deadline, limits: Limits)
+        requires due { deadline.tick ≤ self.old.tick }
         ensures kept { KeepsPeers W.Stream.has_given W.Stream.has_got self.old.peers self.new.peers }
     {
         let number = deadline.number;

@@ -53,11 +53,11 @@ impl<W: World> Traffic<W> {
         }
     }
 
-    /// A guest of whom no octet has come waits on. Behind a stop it goes.
+    /// A guest of whom no octet has come waits on. Behind a stop it goes, once clients that are idle do.
     fn keep_waiting(&mut self, guest: u64)
         ensures kept { KeepsPeers W.Stream.has_given W.Stream.has_got self.old.peers self.new.peers }
     {
-        if self.course.stops() {
+        if self.course.ends_idle() {
             self.let_guest_go(guest);
         }
     }

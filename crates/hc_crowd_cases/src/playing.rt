@@ -1,5 +1,6 @@
 //! A script is played, and clients are served meanwhile.
 
+use crate::wrongs::text_of;
 use hc_cases::Unanswered;
 use hc_core::{Core, CoreFault, CoreSettings};
 use hc_crowd::{Crowd, Failures, Limits, World};
@@ -40,6 +41,8 @@ pub(crate) struct Served {
     pub(crate) behind: bool,
     /// How many forwards failed, and how many links were cut off.
     pub(crate) failures: Failures,
+    /// What was wrong with what came, as text.
+    pub(crate) wrongs: String,
 }
 
 impl Drop for Served {
@@ -51,9 +54,11 @@ impl Drop for Served {
             idle: _,
             behind: _,
             failures: _,
+            wrongs,
         } = self;
         drop(notes);
         drop(recording);
+        drop(wrongs);
     }
 }
 
@@ -123,6 +128,7 @@ fn serve_noted<W: World + Drop>(
         idle: core.idle(),
         behind: noted.links.is_behind(),
         failures: noted.links.failures(),
+        wrongs: text_of(alloc, noted.links.troubles())?,
     })
 }
 

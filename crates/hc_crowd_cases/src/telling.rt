@@ -32,6 +32,7 @@ fn say_asked(question: &str, played: &Played, out: &mut String) -> Result<(), Un
         "events" => say_happened(served.notes.events.as_slice(), out),
         "reasons" => say_reasons(&served.notes, out),
         "visits" => out.push_str(play.visits.as_str()),
+        "wrongs" => out.push_str(served.wrongs.as_str()),
         _ => return Err(Unanswered::Unknown),
     };
     Ok(told?)
@@ -137,13 +138,16 @@ fn say_happened(events: &[Event], out: &mut String) -> Result<(), AllocError> {
     Ok(())
 }
 
-/// Writes what happened that the other side didn't do, by moments, and why it was told.
+/// Writes what happened at links that the other side didn't do, by moments, and why it was told.
 fn say_reasons(notes: &Notes, out: &mut String) -> Result<(), AllocError> {
     let mut is_first = true;
     'events: for (event, reason) in notes.events.iter().zip(notes.reasons.iter()) {
         let Some(why) = why(*reason) else {
             continue;
         };
+        if matches!(event.of, Happening::Stopping) {
+            continue;
+        }
         if !is_first {
             out.push_str("; ")?;
         }
@@ -166,6 +170,8 @@ fn why(reason: Reason) -> Option<&'static str> {
         Reason::Late => Some(", late"),
         Reason::Reset => Some(", reset"),
         Reason::Held => Some(", for what was held"),
+        Reason::Displaced => Some(", to give way"),
+        Reason::Abandoned => Some(", abandoned"),
     }
 }
 
@@ -177,6 +183,7 @@ fn say_one(of: &Happening, out: &mut String) -> Result<(), AllocError> {
         Happening::OriginBytes(f, octets) => ("forward", *f, "gets", Some(octets.len())),
         Happening::OriginEnd(f) => ("forward", *f, "ends", None),
         Happening::OriginFailed(f) => ("forward", *f, "fails", None),
+        Happening::Stopping => return out.push_str(" the cache stops"),
     };
     write!(out, " {whose} {number} {deed}")?;
     match octets {
@@ -210,6 +217,7 @@ fn say_served(served: &Served, tick: u64, out: &mut String) -> Result<(), AllocE
         (failures.unfinished, "unfinished"),
         (failures.unplaced, "without a place"),
         (failures.heavy, "cut off"),
+        (failures.abandoned, "abandoned"),
     ];
     'counts: for (count, what) in counts.iter() {
         say_count(*count, what, out)?;

@@ -73,6 +73,13 @@ impl<'a> World for Made<'a> {
         }
     }
 
+    fn ask_for_clients(&mut self) -> bool {
+        match self.play.try_borrow_mut() {
+            Ok(mut play) => play.ask_for_clients(),
+            Err(_) => false,
+        }
+    }
+
     fn rename(&mut self, stream: &mut Strand<'a>, number: u64) -> bool {
         match self.play.try_borrow_mut() {
             Ok(mut play) => play.rename(stream.link, number),

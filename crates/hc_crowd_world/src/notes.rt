@@ -53,6 +53,7 @@ fn copy_of(alloc: Global, event: &Event) -> Result<Event, AllocError> {
         Happening::OriginBytes(f, octets) => Happening::OriginBytes(*f, octets.copy(alloc)?),
         Happening::OriginEnd(f) => Happening::OriginEnd(*f),
         Happening::OriginFailed(f) => Happening::OriginFailed(*f),
+        Happening::Stopping => Happening::Stopping,
     };
     Ok(Event {
         moment: event.moment,

@@ -32,7 +32,7 @@ pub struct Play {
     wall: Option<Duration>,
     /// The other sides of all links that there were, by key.
     pub peers: BTreeMap<u64, Peer>,
-    ready: VecDeque<Ready>,
+    pub(crate) ready: VecDeque<Ready>,
     /// For so many links at once the system has places.
     places: usize,
     /// Whether the program was asked to stop.

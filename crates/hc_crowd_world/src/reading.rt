@@ -175,6 +175,7 @@ impl<'a> Settings<'a> {
             patience: self.patience(usual.patience),
             queue_timeout: self.number("queue-timeout", usual.queue_timeout),
             connect_timeout: self.number("connect-timeout", usual.connect_timeout),
+            abandoned: self.number("abandoned", usual.abandoned),
             drain_timeout: self.number("drain-timeout", usual.drain_timeout),
             clients: self.take("clients"),
         }

@@ -31,8 +31,8 @@ pub fn script_of(
 fn limits_by(dice: &mut Dice, calm: bool, count: u64) -> Limits {
     let clients = clients_by(dice, calm, count);
     let connections = dice.mostly(4, 50, 20);
-    // Where all have to be served, there is room for all.
-    let least = if calm { clients.unwrap_or(1) } else { 1 };
+    // Where all have to be served, there is room for all: so nobody gives way.
+    let least = if calm { count } else { 1 };
     let usual = if calm {
         Limits {
             queue_timeout: u64::MAX,
@@ -45,6 +45,7 @@ fn limits_by(dice: &mut Dice, calm: bool, count: u64) -> Limits {
         connections: connections.max(least) as usize,
         origin_connections: dice.up_to(12) as usize,
         connect_timeout: dice.timeout(3_000),
+        abandoned: dice.timeout(6_000),
         drain_timeout: dice.below(4_000),
         clients,
         ..usual

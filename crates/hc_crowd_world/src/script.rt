@@ -26,6 +26,7 @@ pub(crate) const USUAL: Limits = Limits {
     },
     queue_timeout: 5_000,
     connect_timeout: 5_000,
+    abandoned: 5_000,
     drain_timeout: 8_000,
     clients: None,
 };

@@ -3,6 +3,7 @@
 use crate::deeds::{Act, Deed};
 use crate::play::{Play, key_of};
 use crate::standing::Standing;
+use hc_crowd::Ready;
 use hc_flow::Presence;
 use hc_order::Receiver;
 use std::fmt::Write;
@@ -21,6 +22,14 @@ impl Play {
         self.stand(link, Standing::Guest(guest));
         self.stir(link);
         Some(link)
+    }
+
+    /// That somebody has connected who wasn't accepted is told anew. Answers whether it could be.
+    pub(crate) fn ask_for_clients(&mut self) -> bool {
+        if self.tally.accepted >= self.tally.connected {
+            return true;
+        }
+        self.ready.push_back(Ready::Clients).is_ok()
     }
 
     /// A guest is the client of that number from now on, unless the system refuses that.

@@ -9,7 +9,7 @@ use Rattle.hc_transcript.specs.Limits.{greatest_number}
 use Rattle.hc_transcript.specs.Records.{opening}
 use Rattle.hc_events.specs.declared.Event.{Event}
 use Rattle.hc_events.specs.declared.Happening.{Happening}
-use Rattle.hc_events.specs.declared.Happening.TheVariants.{ClientOpened, ClientBytes, ClientEnd, OriginBytes, OriginEnd, OriginFailed}
+use Rattle.hc_events.specs.declared.Happening.TheVariants.{ClientOpened, ClientBytes, ClientEnd, OriginBytes, OriginEnd, OriginFailed, Stopping}
 use Rattle.hc_service.specs.declared.action.Action.{Action}
 use Rattle.hc_service.specs.declared.action.Action.TheVariants as action
 use Rattle.hc_service.specs.declared.fault.StepFault.{StepFault}
@@ -246,6 +246,7 @@ last_is n (Heard occurrence ∷ log) first own = by occurrence.event.of (first_i
     by (OriginEnd f) None before first its = absurd (cc)
     by (OriginFailed f) (Some earlier) before first its = before first
     by (OriginFailed f) None before first its = absurd (cc)
+    by Stopping o before first its = absurd its
 last_is n (Sent to octets ∷ log) first own = last_is n log first own
 last_is n (Closed link ∷ log) first own = last_is n log first own
 

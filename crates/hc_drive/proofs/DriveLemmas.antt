@@ -10,7 +10,7 @@ use Rattle.hc_transcript.specs.Limits.{greatest_number}
 use Rattle.hc_transcript.specs.Records.{record_text}
 use Rattle.hc_events.specs.declared.Event.{Event}
 use Rattle.hc_events.specs.declared.Happening.{Happening}
-use Rattle.hc_events.specs.declared.Happening.TheVariants.{ClientOpened, ClientBytes, ClientEnd, OriginBytes, OriginEnd, OriginFailed}
+use Rattle.hc_events.specs.declared.Happening.TheVariants.{ClientOpened, ClientBytes, ClientEnd, OriginBytes, OriginEnd, OriginFailed, Stopping}
 use Rattle.hc_service.specs.declared.action.Action.{Action}
 use Rattle.hc_service.specs.declared.fault.StepFault.{StepFault}
 use Rattle.hc_service.specs.declared.fault.StepFault.TheVariants.{Memory, MomentTooLarge, UnknownNumber, TooManyConnections, Failed}
@@ -76,6 +76,7 @@ may_in_more few many less (ClientEnd c) log may = may
 may_in_more few many less (OriginBytes f octets) log may = may
 may_in_more few many less (OriginEnd f) log may = may
 may_in_more few many less (OriginFailed f) log may = may
+may_in_more few many less Stopping log may = may
 
 orderly_in_more : (few many : ℕ) → few ≤ many → (occurrences : List Occurrence) (results : List StepResult) (log : List Move) → AreOrderly few occurrences results log → AreOrderly many occurrences results log
 orderly_in_more few many less [] results log o = tt

@@ -10,8 +10,9 @@ use Rattle.hc_service.specs.declared.fault.StepFault.TheVariants.{Memory}
 use Rattle.hc_service.specs.declared.settings.CoreSettings.{CoreSettings}
 use Rattle.hc_service.specs.Agreement.{IsReady}
 use Rattle.hc_service.specs.Runs.{StepResult}
+use Rattle.hc_service.specs.Serves.{clients_of}
 use Rattle.hc_service.specs.State.{State, awaits_reply}
-use Rattle.hc_machine.specs.Held.{held_of_client, held_of_forward, is_background}
+use Rattle.hc_machine.specs.Held.{held_of_client, held_of_forward, is_background, is_needed}
 use Rattle.hc_machine.specs.Steps.{Cache, GivesStep, StandsFor}
 use Rattle.hc_order.specs.declared.occurrence.Occurrence.{Occurrence}
 use Rattle.hc_order.specs.declared.receiver.Receiver.{Receiver}
@@ -30,6 +31,14 @@ awaited_by cache c awaits = (settings : CoreSettings) (s : State) → StandsFor 
 -- and that is whether that forward is open for the store alone
 abbrev pub background_by : Cache → ℕ → Bool → Type 0
 background_by cache f background = (settings : CoreSettings) (s : State) → StandsFor settings cache s → background ≡ is_background f s
+
+-- and that is whether it is open and goes on even where nobody awaits what comes on it
+abbrev pub needed_by : Cache → ℕ → Bool → Type 0
+needed_by cache f needed = (settings : CoreSettings) (s : State) → StandsFor settings cache s → needed ≡ is_needed f s
+
+-- and those are the connections that its end answers
+abbrev pub clients_by : Cache → ℕ → List ℕ → Type 0
+clients_by cache f clients = (settings : CoreSettings) (s : State) → StandsFor settings cache s → clients ≡ clients_of f s
 
 -- how many octets a state holds of what came on that link and isn't whole
 abbrev pub held_of : Receiver → State → ℕ

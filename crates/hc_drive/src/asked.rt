@@ -1,10 +1,13 @@
 //! A cache that is asked what it awaits.
 
-ghost use Rattle.hc_drive.specs.Rounds.{awaited_by, background_by, held_by};
+ghost use Rattle.hc_drive.specs.Rounds.{awaited_by, background_by, clients_by, held_by, needed_by};
 
+use hc_events::Incident;
+use hc_head::Target;
 use hc_link_traits::Awaiting;
 use hc_machine::Core;
 use hc_order::Receiver;
+use std::alloc::AllocError;
 use std::hash::BuildHasher;
 
 /// A cache, as whoever hears what happens next may ask it.
@@ -18,6 +21,10 @@ impl<'a, S: BuildHasher> Awaiting for Asked<'a, S> {
 
     ghost background = { λ asked. background_by asked.core.now };
 
+    ghost needed = { λ asked. needed_by asked.core.now };
+
+    ghost clients = { λ asked. clients_by asked.core.now };
+
     ghost holds = { λ asked. held_by asked.core.now };
 
     fn awaits(&self, connection: u64) -> bool {
@@ -26,6 +33,22 @@ impl<'a, S: BuildHasher> Awaiting for Asked<'a, S> {
 
     fn is_background(&self, forward: u64) -> bool {
         self.core.is_background(forward)
+    }
+
+    fn is_needed(&self, forward: u64) -> bool {
+        self.core.is_needed(forward)
+    }
+
+    fn clients_of(&self, forward: u64) -> Result<Vec<u64>, AllocError> {
+        self.core.clients_of(forward)
+    }
+
+    fn target_of(&self, forward: u64) -> Option<&Target> {
+        self.core.target_of(forward)
+    }
+
+    fn incidents(&self) -> &[Incident] {
+        self.core.incidents()
     }
 
     fn held(&self, link: Receiver) -> usize {

@@ -1,5 +1,5 @@
 //! Serving clients: what happens at links is handed to a cache, what the cache does is carried out, and its records are
-//! written.
+//! written. What a caller needs for that is here, too: the traits of links, and the replay of scripts.
 #![tactic(auto)]
 
 mod asked;
@@ -17,5 +17,7 @@ pub use clients::serve_clients;
 pub use crowds::serve_crowd;
 pub use driving::drive;
 pub use fault::{DriveFault, ServingFault};
+pub use hc_link_traits::{Clock, Link, Origins};
+pub use hc_scripts::replay;
 pub use serving::serve_connection;
 pub use watcher::{Unwatched, Watcher};

@@ -1,7 +1,12 @@
-//! What happens to a shared cache.
+//! What happens to a shared cache, and what may be wrong there.
 #![tactic(auto)]
 
+mod incidents;
+mod troubles;
+
 use hc_fields::Octets;
+pub use incidents::Incident;
+pub use troubles::Trouble;
 
 /// Something that happens at one of a cache's links, and when.
 #[derive(Drop)]
@@ -28,4 +33,7 @@ pub enum Happening {
     OriginEnd(u64),
     /// That forward couldn't be made, or broke.
     OriginFailed(u64),
+    /// Whoever serves the cache stops: from now on each reply closes its connection behind it (RFC 9112
+    /// section 9.6).
+    Stopping,
 }

@@ -3,7 +3,7 @@ use Rattle.std.specs.Prelude.{◌≡◌, ◌||◌, ◌⊎◌, ℕ, Bool, true, f
 use Rattle.std.specs.declared.alloc.AllocError.{AllocError}
 use Rattle.hc_flow.specs.declared.flow.Flow.{Flow}
 use Rattle.hc_flow.specs.declared.readiness.Readiness.{Readiness}
-use Rattle.hc_order.specs.declared.occurrence.Reason.TheVariants.{Peer, Stop, Reset}
+use Rattle.hc_order.specs.declared.occurrence.Reason.TheVariants.{Peer, Stop, Reset, Displaced}
 use Rattle.hc_order.specs.Passages.{Passage, ending, hearing, sending}
 use Rattle.hc_flow.specs.declared.heard.Heard.{Heard}
 use Rattle.hc_flow.specs.declared.heard.Heard.TheVariants.{Octets, End, Lost, Nothing}
@@ -63,11 +63,12 @@ IsHeardOpen is_open is_ended (Ok (Lost reason)) = (is_open ≡ true) × (is_ende
 IsHeardOpen is_open is_ended (Ok Nothing) = Unit {0}
 IsHeardOpen is_open is_ended (Err refused) = Unit {0}
 
--- octets, and an end by which the other side leaves or for a stop, are heard only where nothing holds them back; that a link has failed is heard at once
+-- octets, and an end by which the other side leaves, for a stop or for another's sake, are heard only where nothing holds them back; that a link has failed is heard at once
 abbrev pub IsHeardInTurn : Bool → Result Heard AllocError → Type 0
 IsHeardInTurn held_back (Ok (Octets octets)) = held_back ≡ false
 IsHeardInTurn held_back (Ok (End Peer)) = held_back ≡ false
 IsHeardInTurn held_back (Ok (End Stop)) = held_back ≡ false
+IsHeardInTurn held_back (Ok (End Displaced)) = held_back ≡ false
 IsHeardInTurn held_back other = Unit {0}
 
 -- whether the other side has ended, by whether it had before

@@ -5,7 +5,7 @@ use Rattle.hc_events.specs.declared.Happening.{Happening}
 use Rattle.hc_events.specs.declared.Happening.TheVariants.{ClientBytes, ClientEnd}
 use Rattle.hc_order.specs.declared.occurrence.Occurrence.{Occurrence}
 use Rattle.hc_order.specs.declared.occurrence.Reason.{Reason}
-use Rattle.hc_order.specs.declared.occurrence.Reason.TheVariants.{Peer, Stop}
+use Rattle.hc_order.specs.declared.occurrence.Reason.TheVariants.{Peer, Stop, Displaced}
 use Rattle.hc_order.specs.Log.{Move}
 use Rattle.hc_link_traits.specs.declared.happened.Happened.{Happened}
 use Rattle.hc_order.specs.Mirrors.{MayHappen}
@@ -29,11 +29,12 @@ abbrev pub TellsSent : {T : Type 0} → (List Move → Type 0) → Result T Allo
 TellsSent tells (Ok done) to octets log = tells (Sent to octets ∷ log)
 TellsSent tells (Err refused) to octets log = tells log
 
--- octets of a client are told, that it sends no more, and its end for a stop, where none of its requests awaits its reply; all else is told at once, also that its link failed
+-- octets of a client are told, that it sends no more, and its end for a stop or for another client's sake, where none of its requests awaits its reply; all else is told at once, also that its link failed
 abbrev pub HasWaited : (ℕ → Bool → Type 0) → Happening → Reason → Type 0
 HasWaited awaited (ClientBytes c octets) reason = awaited c false
 HasWaited awaited (ClientEnd c) Peer = awaited c false
 HasWaited awaited (ClientEnd c) Stop = awaited c false
+HasWaited awaited (ClientEnd c) Displaced = awaited c false
 HasWaited awaited other reason = Unit {0}
 
 -- so it is with what happens next, where awaited has what a cache may answer of each client

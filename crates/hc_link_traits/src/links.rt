@@ -1,6 +1,6 @@
 //! The links of a cache as its driver sees them: it hears what happens there, and sends what the cache gives out.
 
-ghost use Rattle.std.specs.Prelude.{◌≡◌, ℕ, Bool, List, ◌∷◌, Option, Result, Ok, None};
+ghost use Rattle.std.specs.Prelude.{◌≡◌, ℕ, Bool, List, ◌∷◌, Option, Result, Ok, None, IfOk};
 ghost use Rattle.std.specs.declared.alloc.AllocError.{AllocError};
 ghost use Rattle.hc_order.specs.declared.occurrence.Occurrence.{Occurrence};
 ghost use Rattle.hc_order.specs.declared.receiver.Receiver.{Receiver};
@@ -9,7 +9,9 @@ ghost use Rattle.hc_order.specs.Log.Move.{Closed};
 ghost use Rattle.hc_link_traits.specs.Keeping.{KeepsLinks};
 ghost use Rattle.hc_link_traits.specs.Telling.{MayBeNext, TellsNext, TellsSent};
 
+use hc_events::Incident;
 use hc_framing::MessageText;
+use hc_head::Target;
 use hc_order::{Occurrence, Receiver};
 use std::alloc::AllocError;
 
@@ -20,6 +22,12 @@ pub trait Awaiting {
 
     /// That may be its answer about a forward.
     ghost background: { Self → ℕ → Bool → Type 0 };
+
+    /// That may be its answer about whether a forward goes on where nobody awaits what comes on it.
+    ghost needed: { Self → ℕ → Bool → Type 0 };
+
+    /// Those may be the connections that it names of a forward.
+    ghost clients: { Self → ℕ → List ℕ → Type 0 };
 
     /// That may be its answer about what it holds of a link.
     ghost holds: { Self → Receiver → ℕ → Type 0 };
@@ -32,6 +40,23 @@ pub trait Awaiting {
     /// out stale.
     fn is_background(&self, forward: u64) -> bool
         ensures { background self.now forward result };
+
+    /// Whether that forward goes on even where nobody awaits what comes on it: it is for the store alone, or its request
+    /// may change something at the origin.
+    fn is_needed(&self, forward: u64) -> bool
+        ensures { needed self.now forward result };
+
+    /// The connections of the exchanges that the end of that forward answers: first that for which it was sent, then those
+    /// that wait for it. It fails only where memory is refused.
+    fn clients_of(&self, forward: u64) -> Result<Vec<u64>, AllocError>
+        ensures { IfOk result (λ numbers. clients self.now forward numbers.items) };
+
+    /// What that forward asks for, if it is open. It is for whoever tells of it: no clause binds it.
+    fn target_of(&self, forward: u64) -> Option<&Target>;
+
+    /// What was refused in the last step that was served, and which forwards failed there by what came on them, in the
+    /// order in which that happened. It is for whoever tells of it: no clause binds it.
+    fn incidents(&self) -> &[Incident];
 
     /// How many octets the cache holds of what came on that link and isn't whole.
     fn held(&self, link: Receiver) -> usize

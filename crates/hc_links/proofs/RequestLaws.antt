@@ -11,7 +11,9 @@ use Rattle.hc_framing.specs.FramingLaws.{request_laws}
 use Rattle.hc_framing.specs.Messages.{request_form}
 use Rattle.hc_framing.proofs.ReaderLemmas.{fault_has_none}
 use Rattle.hc_links.proofs.BeginningLemmas.{begins_on, in_time_has_none, one_begins}
+use Rattle.hc_links.proofs.HeadLemmas.{refused_for}
 use Rattle.hc_links.proofs.RequestLemmas.{one_head}
+use Rattle.hc_links.specs.Troubles.{refusal_status}
 use Rattle.hc_links.specs.declared.arrival.Arrival.{Arrival}
 use Rattle.hc_links.specs.declared.arrival.Arrival.TheVariants as arrivals
 use Rattle.hc_links.specs.declared.requests.RequestReader.{RequestReader}
@@ -75,6 +77,7 @@ pub finds_request : (result : Result Arrival AllocError) (r : RequestReader) (oc
 finds_request (Ok (arrivals.Request found found_target)) r octets message target len gives p =
     let same = one_request octets [] found message found_target target gives.len len gives.is_request (subst (λ (o : List ℕ). IsRequest o message target len) (sym (append-nil octets)) p) in
     (same.0, same.1)
-finds_request (Ok (arrivals.Refused status)) r octets message target len gives p = request_not_refused octets message target len status p gives
+finds_request (Ok (arrivals.Refused trouble)) r octets message target len gives p =
+    request_not_refused octets message target len (refusal_status trouble) p (refused_for octets trouble gives)
 finds_request (Ok arrivals.More) r octets message target len gives p = request_not_unfinished octets message target len p gives.0
 finds_request (Err e) r octets message target len gives p = tt

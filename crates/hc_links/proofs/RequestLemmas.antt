@@ -3,6 +3,7 @@ use Rattle.std.proofs.Common.{◌≡◌, ◌≢◌, ℕ, ◌+◌, ◌^◌, ◌<�
 use Rattle.std.specs.Option.{IsSome}
 use Rattle.std.proofs.lemmas.List.{take-append-drop}
 use Rattle.std.proofs.Math.Seq.{drop-append-add}
+use Rattle.hc_events.specs.declared.troubles.Trouble.{Trouble}
 use Rattle.hc_head.specs.declared.head.RequestHead.{RequestHead}
 use Rattle.hc_head.specs.declared.head.Target.{Target}
 use Rattle.hc_head.specs.declared.head.TheConstants.Room.{RECEIVED}
@@ -27,9 +28,10 @@ use Rattle.hc_links.specs.declared.arrival.Arrival.{Arrival}
 use Rattle.hc_links.specs.declared.arrival.Arrival.TheVariants as arrivals
 use Rattle.hc_links.specs.declared.requests.RequestReader.{RequestReader}
 use Rattle.hc_links.specs.Arrivals.{is_more, refusal_of}
-use Rattle.hc_links.specs.Requests.{HasHead, IsServed, IsRefused, IsUnfinished, IsGivenUp, PassesTests, fault_status}
+use Rattle.hc_links.specs.Refusals.{IsRefusedFor}
+use Rattle.hc_links.specs.Troubles.{last_trouble, trouble_of}
+use Rattle.hc_links.specs.Requests.{HasHead, IsServed, IsUnfinished, IsGivenUp, PassesTests}
 use Rattle.hc_links.specs.RequestReading.{WasGiven, GivesEnd, GivesNext, HasPassed, HasRead, TakesRequest}
-use Rattle.hc_links.specs.HeadParts.{last_status}
 use Rattle.hc_links.specs.RequestParts.{MayPass, PassesWith, FailsWith, GivesTest, HasMet, HasGoneOn, HasEnded}
 
 -- ---- the head that has come
@@ -51,9 +53,9 @@ passes_tests octets (Some h) (Some t) shows passed = λ head has.
     (t, subst (λ (x : RequestHead). IsServed x t) (one_head octets h head shows has) passed)
 
 -- a head that fails a test is refused
-pub fails_test : (octets : List ℕ) (shown : Option RequestHead) (target : Option Target) (status : ℕ) → framing.ShowsHead request_form Request RECEIVED octets shown
-    → FailsWith shown target status → IsRefused octets status
-fails_test octets shown target status shows fails = inr (record {
+pub fails_test : (octets : List ℕ) (shown : Option RequestHead) (target : Option Target) (trouble : Trouble) → framing.ShowsHead request_form Request RECEIVED octets shown
+    → FailsWith shown target trouble → IsRefusedFor octets trouble
+fails_test octets shown target trouble shows fails = inr (record {
   head = fails.failed;
   has_come = subst (framing.ShowsHead request_form Request RECEIVED octets) fails.has_come shows;
   unserved = fails.unserved;
@@ -89,26 +91,26 @@ shown_after faults.Memory octets shown not shows = absurd (not refl)
 shown_after faults.Failed octets shown not shows = shows
 
 -- the tests come first
-pub met_and_failed : (r s : RequestReader) (fault : FrameFault) (octets : List ℕ) (status : ℕ) → fault ≢ faults.Memory → HasMet r fault octets
-    → GivesTest (Ok (Some status)) r s → IsRefused octets status
-met_and_failed r s fault octets status not met tested =
-    fails_test octets r.reader.head r.target status (shown_after fault octets r.reader.head not met.shows) tested.1
+pub met_and_failed : (r s : RequestReader) (fault : FrameFault) (octets : List ℕ) (trouble : Trouble) → fault ≢ faults.Memory → HasMet r fault octets
+    → GivesTest (Ok (Some trouble)) r s → IsRefusedFor octets trouble
+met_and_failed r s fault octets trouble not met tested =
+    fails_test octets r.reader.head r.target trouble (shown_after fault octets r.reader.head not met.shows) tested.1
 
-pub met_and_passed : (r s : RequestReader) (fault found : FrameFault) (octets : List ℕ) (status : ℕ) → fault ≢ faults.Memory → found ≡ fault → status ≡ fault_status found → HasMet r fault octets
-    → GivesTest (Ok None) r s → IsRefused octets status
-met_and_passed r s fault found octets status not same is met tested = inl (record {
+pub met_and_passed : (r s : RequestReader) (fault found : FrameFault) (octets : List ℕ) (trouble : Trouble) → fault ≢ faults.Memory → found ≡ fault → trouble ≡ trouble_of found → HasMet r fault octets
+    → GivesTest (Ok None) r s → IsRefusedFor octets trouble
+met_and_passed r s fault found octets trouble not same is met tested = inl (record {
   fault = fault;
   not_memory = not;
   stands = met.stands;
   passes = passes_tests octets r.reader.head s.target (shown_after fault octets r.reader.head not met.shows) (has_passed r.reader.head r.target s.target met.may_pass tested.1);
-  status_is = is ∙ ap fault_status same;
+  trouble_is = is ∙ ap trouble_of same;
 })
 
 -- ---- nothing yet
 
-pub goes_on_and_failed : (r s : RequestReader) (octets : List ℕ) (status : ℕ) → HasGoneOn r octets → GivesTest (Ok (Some status)) r s → IsRefused octets status
-goes_on_and_failed r s octets status on tested =
-    fails_test octets r.reader.head r.target status (agreeing_shows request_form request_laws Request RECEIVED r.reader octets on.reads) tested.1
+pub goes_on_and_failed : (r s : RequestReader) (octets : List ℕ) (trouble : Trouble) → HasGoneOn r octets → GivesTest (Ok (Some trouble)) r s → IsRefusedFor octets trouble
+goes_on_and_failed r s octets trouble on tested =
+    fails_test octets r.reader.head r.target trouble (agreeing_shows request_form request_laws Request RECEIVED r.reader octets on.reads) tested.1
 
 pub goes_on : (r s : RequestReader) (octets : List ℕ) → HasGoneOn r octets → r.waits ≡ [] → GivesTest (Ok None) r s → IsUnfinished octets × HasRead s octets
 goes_on r s octets on none tested =
@@ -137,9 +139,9 @@ whole_octets : (read waits octets : List ℕ) (used : ℕ) → octets ≡ read +
 whole_octets read waits octets used all =
     append_assoc read (take used waits) (drop used waits) ∙ ap (λ (o : List ℕ). read ++ o) (take-append-drop used waits) ∙ sym all
 
-pub ends_and_failed : (r s : RequestReader) (used : ℕ) (octets : List ℕ) (status : ℕ) → HasEnded r used octets → GivesTest (Ok (Some status)) r s → IsRefused octets status
-ends_and_failed r s used octets status ends tested =
-    fails_test octets r.reader.head r.target status
+pub ends_and_failed : (r s : RequestReader) (used : ℕ) (octets : List ℕ) (trouble : Trouble) → HasEnded r used octets → GivesTest (Ok (Some trouble)) r s → IsRefusedFor octets trouble
+ends_and_failed r s used octets trouble ends tested =
+    fails_test octets r.reader.head r.target trouble
     (subst (λ (o : List ℕ). framing.ShowsHead request_form Request RECEIVED o r.reader.head) (sym ends.all)
     (ok_shows request_form request_laws Request RECEIVED r.reader ends.read r.waits (Whole used) ends.ends)) tested.1
 
@@ -232,8 +234,8 @@ given_up r m octets progress unfinished read gives = go progress (gives Request 
     go (Whole used) g = cut_in_body octets m unfinished g.1
 
 ends_by : (fault : FrameFault) (octets : List ℕ) → fault ≢ faults.Memory → IsUnfinished octets → StandsAtEnd request_form Request fault octets RECEIVED
-    → GivesEnd (Ok (last_status fault)) octets
-ends_by (faults.Head f) octets not unfinished stands = inl (record { fault = faults.Head f; not_memory = not; stands = stands; passes = unfinished.passes; status_is = refl })
+    → GivesEnd (Ok (last_trouble fault)) octets
+ends_by (faults.Head f) octets not unfinished stands = inl (record { fault = faults.Head f; not_memory = not; stands = stands; passes = unfinished.passes; trouble_is = refl })
 ends_by faults.BothLengths octets not unfinished stands = absurd stands
 ends_by faults.BadLength octets not unfinished stands = absurd stands
 ends_by faults.BadCoding octets not unfinished stands = absurd stands
@@ -244,21 +246,21 @@ ends_by faults.Memory octets not unfinished stands = absurd (not refl)
 ends_by faults.Failed octets not unfinished stands = absurd stands
 
 -- the same where a fault is met
-pub ended_by : (r : RequestReader) (m : MessageReader RequestHead) (octets : List ℕ) (fault met : FrameFault) (status : Option ℕ) → met ≡ fault → fault ≢ faults.Memory → status ≡ last_status met
+pub ended_by : (r : RequestReader) (m : MessageReader RequestHead) (octets : List ℕ) (fault met : FrameFault) (told : Option Trouble) → met ≡ fault → fault ≢ faults.Memory → told ≡ last_trouble met
     → IsUnfinished octets → HasRead r octets
-    → ((kind : Kind) (room : Room) (o : List ℕ) → framing.Agrees request_form kind room r.reader o → framing.EndGives request_form (Err fault) kind room m o) → GivesEnd (Ok status) octets
-ended_by r m octets fault met status same not is unfinished read gives =
-    subst (λ (x : Option ℕ). GivesEnd (Ok x) octets) (sym (is ∙ ap last_status same)) (ends_by fault octets not unfinished (gives Request RECEIVED octets (all_read r octets read)))
+    → ((kind : Kind) (room : Room) (o : List ℕ) → framing.Agrees request_form kind room r.reader o → framing.EndGives request_form (Err fault) kind room m o) → GivesEnd (Ok told) octets
+ended_by r m octets fault met told same not is unfinished read gives =
+    subst (λ (x : Option Trouble). GivesEnd (Ok x) octets) (sym (is ∙ ap last_trouble same)) (ends_by fault octets not unfinished (gives Request RECEIVED octets (all_read r octets read)))
 
 -- ---- the answers to the client's end
 
 -- the octets of a connection whose client has ended, by what they are
-pub ends_with : (r : RequestReader) (octets : List ℕ) (arrival : Arrival) (status : Option ℕ) → is_more arrival ≡ false → status ≡ refusal_of arrival → GivesNext (Ok arrival) r octets
-    → GivesEnd (Ok status) octets
-ends_with r octets (arrivals.Request message target) status some is gives =
-    subst (λ (x : Option ℕ). GivesEnd (Ok x) octets) (sym is) (inl (record { message = message; target = target; len = gives.len; is_request = gives.is_request }))
-ends_with r octets (arrivals.Refused refusal) status some is gives = subst (λ (x : Option ℕ). GivesEnd (Ok x) octets) (sym is) gives
-ends_with r octets arrivals.More status some is gives = absurd (search (rules, some))
+pub ends_with : (r : RequestReader) (octets : List ℕ) (arrival : Arrival) (told : Option Trouble) → is_more arrival ≡ false → told ≡ refusal_of arrival → GivesNext (Ok arrival) r octets
+    → GivesEnd (Ok told) octets
+ends_with r octets (arrivals.Request message target) told some is gives =
+    subst (λ (x : Option Trouble). GivesEnd (Ok x) octets) (sym is) (inl (record { message = message; target = target; len = gives.len; is_request = gives.is_request }))
+ends_with r octets (arrivals.Refused refusal) told some is gives = subst (λ (x : Option Trouble). GivesEnd (Ok x) octets) (sym is) gives
+ends_with r octets arrivals.More told some is gives = absurd (search (rules, some))
 
 -- nothing has come yet
 pub none_came : (r : RequestReader) (octets : List ℕ) (arrival : Arrival) → is_more arrival ≡ true → GivesNext (Ok arrival) r octets

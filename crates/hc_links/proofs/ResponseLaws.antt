@@ -134,7 +134,7 @@ module _ (to_head : Bool) where
   pub finds_response : (result : Result Heard AllocError) (r : ResponseReader) (octets : List ℕ) (message : Message ResponseHead) → GivesHeard result to_head r octets → IsResponse to_head octets message
       → FindsResponse result message
   finds_response (Ok (hears.Response found)) r octets message gives p = same_response octets found message gives p
-  finds_response (Ok hears.Failed) r octets message gives p = response_not_failed octets message p gives
+  finds_response (Ok (hears.Failed trouble)) r octets message gives p = response_not_failed octets message p gives.failure
   finds_response (Ok hears.More) r octets message gives p = response_not_unfinished octets message p gives.0
   finds_response (Err e) r octets message gives p = tt
 

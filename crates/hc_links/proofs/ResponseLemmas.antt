@@ -3,6 +3,8 @@ use Rattle.std.proofs.Common.{◌≡◌, ◌≢◌, ℕ, zero, suc, ◌+◌, ◌
 use Rattle.std.proofs.lemmas.Bool.Decides.{nat_tests}
 use Rattle.std.proofs.lemmas.List.{drop-append-le, drop_all, take-append-drop}
 use Rattle.std.proofs.Math.Seq.{take-add}
+use Rattle.hc_events.specs.declared.troubles.Trouble.{Trouble}
+use Rattle.hc_events.specs.declared.troubles.Trouble.TheVariants as troubles
 use Rattle.hc_fields.specs.declared.fields.Field.{Field}
 use Rattle.hc_head.specs.declared.head.ResponseHead.{ResponseHead}
 use Rattle.hc_head.specs.declared.head.Room.{Room}
@@ -28,7 +30,9 @@ use Rattle.hc_framing.proofs.ReaderLemmas.{agreeing_has_none, agreeing_in_time}
 use Rattle.hc_links.proofs.BeginningLemmas.{begins_on, begins_within, takes_some}
 use Rattle.hc_links.proofs.CountLemmas.{counted_on, counted_front}
 use Rattle.hc_links.specs.declared.responses.ResponseReader.{ResponseReader}
-use Rattle.hc_links.specs.Responses.{most_interim, switching_protocols, Begins, BeginsInterim, AreInterimThen, Leaves, IsResponse, IsFailure, IsUnfinished, IsResponseAtEnd, IsFailureAtEnd}
+use Rattle.hc_links.specs.Responses.{most_interim, switching_protocols, Begins, BeginsInterim, AreInterimThen, Leaves, IsResponse, IsUnfinished, IsResponseAtEnd}
+use Rattle.hc_links.specs.Failures.{IsFailureFor, IsFailureAtEndFor}
+use Rattle.hc_links.specs.Troubles.{trouble_of}
 use Rattle.hc_links.specs.ResponseReading.{WasGiven}
 use Rattle.hc_links.specs.declared.responses.Part.{Part}
 use Rattle.hc_links.specs.declared.responses.Part.TheVariants.{Interim, Last}
@@ -67,13 +71,16 @@ leaves_on to_head octets count rest more leaves = record { are = are_on to_head 
 
 -- ---- what a piece gives
 
-pub fails : (to_head : Bool) (r : ResponseReader) (octets piece : List ℕ) (fault : FrameFault) (a : WasGiven to_head r octets) → fault ≢ faults.Memory
-    → StandsIn response_form (Response to_head) fault (a.rest ++ piece) RECEIVED → IsFailure to_head (octets ++ piece)
-fails to_head r octets piece fault a not stands = record {
-  count = r.interim;
-  rest = a.rest ++ piece;
-  leaves = leaves_on to_head octets r.interim a.rest piece a.leaves;
-  fails = inl (record { fault = fault; not_memory = not; stands = stands });
+pub fails : (to_head : Bool) (r : ResponseReader) (octets piece : List ℕ) (fault met : FrameFault) (trouble : Trouble) (a : WasGiven to_head r octets) → fault ≢ faults.Memory → met ≡ fault → trouble ≡ trouble_of met
+    → StandsIn response_form (Response to_head) fault (a.rest ++ piece) RECEIVED → IsFailureFor to_head (octets ++ piece) trouble
+fails to_head r octets piece fault met trouble a not same is stands = record {
+  failure = record {
+    count = r.interim;
+    rest = a.rest ++ piece;
+    leaves = leaves_on to_head octets r.interim a.rest piece a.leaves;
+    fails = inl (record { fault = fault; not_memory = not; stands = stands });
+  };
+  told = is ∙ ap trouble_of same;
 }
 
 pub goes_on : (to_head : Bool) (r : ResponseReader) (m : MessageReader ResponseHead) (heard : ℕ) (octets piece : List ℕ) (a : WasGiven to_head r octets)
@@ -132,26 +139,32 @@ is_response to_head r octets piece used message e taken not =
     }
 
 pub switches : (to_head : Bool) (r : ResponseReader) (octets piece : List ℕ) (used : ℕ) (message : Message ResponseHead) → HasEnded to_head r octets piece used
-    → ((m : Message ResponseHead) → framing.Holds r.reader m → message ≡ m) → message.head.status ≡ switching_protocols → IsFailure to_head (octets ++ piece)
+    → ((m : Message ResponseHead) → framing.Holds r.reader m → message ≡ m) → message.head.status ≡ switching_protocols → IsFailureFor to_head (octets ++ piece) troubles.SwitchesProtocol
 switches to_head r octets piece used message e taken is = record {
-  count = r.interim;
-  rest = e.rest ++ piece;
-  leaves = leaves_on to_head octets r.interim e.rest piece e.leaves;
-  fails = inr (inl (record { message = message; len = length e.rest + used; begins = begins_rest to_head r octets piece used message e (taken e.ends.message e.ends.holds); switches = is }));
+  failure = record {
+    count = r.interim;
+    rest = e.rest ++ piece;
+    leaves = leaves_on to_head octets r.interim e.rest piece e.leaves;
+    fails = inr (inl (record { message = message; len = length e.rest + used; begins = begins_rest to_head r octets piece used message e (taken e.ends.message e.ends.holds); switches = is }));
+  };
+  told = refl;
 }
 
 pub too_many : (to_head : Bool) (r : ResponseReader) (octets piece : List ℕ) (used : ℕ) (message : Message ResponseHead) → HasEnded to_head r octets piece used
     → ((m : Message ResponseHead) → framing.Holds r.reader m → message ≡ m) → is_interim message.head.status ≡ true → message.head.status ≢ switching_protocols → most_interim ≤ r.interim
-    → IsFailure to_head (octets ++ piece)
+    → IsFailureFor to_head (octets ++ piece) troubles.TooManyInterim
 too_many to_head r octets piece used message e taken interim not most = record {
-  count = r.interim;
-  rest = e.rest ++ piece;
-  leaves = leaves_on to_head octets r.interim e.rest piece e.leaves;
-  fails = inr (inr (record {
-    len = length e.rest + used;
-    begins = record { message = message; begins = begins_rest to_head r octets piece used message e (taken e.ends.message e.ends.holds); interim = interim; no_switch = not };
-    too_many = omega (arith, most, e.leaves.few);
-  }));
+  failure = record {
+    count = r.interim;
+    rest = e.rest ++ piece;
+    leaves = leaves_on to_head octets r.interim e.rest piece e.leaves;
+    fails = inr (inr (record {
+      len = length e.rest + used;
+      begins = record { message = message; begins = begins_rest to_head r octets piece used message e (taken e.ends.message e.ends.holds); interim = interim; no_switch = not };
+      too_many = omega (arith, most, e.leaves.few);
+    }));
+  };
+  told = refl;
 }
 
 pub is_dropped : (to_head : Bool) (r q s : ResponseReader) (octets piece : List ℕ) (used : ℕ) (message : Message ResponseHead) → HasEnded to_head r octets piece used
@@ -229,16 +242,20 @@ ends_with to_head r m octets progress message a gives taken = go progress (gives
         let whole : IsWholeResponse to_head a.rest RECEIVED message = subst (IsWholeResponse to_head a.rest RECEIVED) (sym (taken g.1.message g.1.holds)) g.1.is in
         record { count = r.interim; rest = a.rest; leaves = a.leaves; is_whole = whole; final = final whole (is_interim message.head.status) refl }
 
-pub fails_at_end : (to_head : Bool) (r : ResponseReader) (m : MessageReader ResponseHead) (octets : List ℕ) (fault : FrameFault) → WasGiven to_head r octets → fault ≢ faults.Memory
+pub fails_at_end : (to_head : Bool) (r : ResponseReader) (m : MessageReader ResponseHead) (octets : List ℕ) (fault met : FrameFault) (trouble : Trouble) → WasGiven to_head r octets → fault ≢ faults.Memory
+    → met ≡ fault → trouble ≡ trouble_of met
     → ((kind : Kind) (room : Room) (o : List ℕ) → framing.Agrees response_form kind room r.reader o → framing.EndGives response_form (Err fault) kind room m o)
-    → IsFailureAtEnd to_head octets
-fails_at_end to_head r m octets fault a not gives = record {
-  count = r.interim;
-  rest = a.rest;
-  leaves = a.leaves;
-  fault = fault;
-  not_memory = not;
-  stands = gives (Response to_head) RECEIVED a.rest a.reads;
+    → IsFailureAtEndFor to_head octets trouble
+fails_at_end to_head r m octets fault met trouble a not same is gives = record {
+  failure = record {
+    count = r.interim;
+    rest = a.rest;
+    leaves = a.leaves;
+    fault = fault;
+    not_memory = not;
+    stands = gives (Response to_head) RECEIVED a.rest a.reads;
+  };
+  told = is ∙ ap trouble_of same;
 }
 
 -- ---- the rest of a piece

@@ -1,20 +1,14 @@
 -- For the crate's own functions: what the tests of a head say.
-use Rattle.std.specs.Prelude.{ℕ, Option, Some, None, Result, Ok, Err}
+use Rattle.std.specs.Prelude.{Result, Ok, Err}
 use Rattle.std.specs.declared.alloc.AllocError.{AllocError}
 use Rattle.hc_head.specs.declared.head.RequestHead.{RequestHead}
 use Rattle.hc_links.specs.declared.heads.Tested.{Tested}
 use Rattle.hc_links.specs.declared.heads.Tested.TheVariants.{Served, Refused}
-use Rattle.hc_framing.specs.declared.fault.FrameFault.{FrameFault}
-use Rattle.hc_framing.specs.declared.fault.FrameFault.TheVariants.{Truncated}
-use Rattle.hc_links.specs.Requests.{IsServed, IsUnserved, fault_status}
+use Rattle.hc_links.specs.Refusals.{IsUnservedFor}
+use Rattle.hc_links.specs.Requests.{IsServed}
 
 -- each answer stands only where this says so
 abbrev pub GivesTested : Result Tested AllocError → RequestHead → Type 0
 GivesTested (Ok (Served target)) head = IsServed head target
-GivesTested (Ok (Refused status)) head = IsUnserved head status
+GivesTested (Ok (Refused trouble)) head = IsUnservedFor head trouble
 GivesTested (Err e) head = Unit {0}
-
--- the status that answers a fault at the client's end, if there is one
-abbrev pub last_status : FrameFault → Option ℕ
-last_status Truncated = None
-last_status fault = Some (fault_status fault)

@@ -1,5 +1,8 @@
 pub mod Requests
 pub mod Responses
+pub mod Troubles
+pub mod Refusals
+pub mod Failures
 pub mod HeadParts
 pub mod Arrivals
 pub mod Counts

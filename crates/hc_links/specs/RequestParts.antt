@@ -1,6 +1,7 @@
 -- For the reader's own functions: what each part of a call does.
 use Rattle.std.specs.Prelude.{◌≡◌, ℕ, List, ◌++◌, Option, Some, None, Result, Ok, Err}
 use Rattle.std.specs.declared.alloc.AllocError.{AllocError}
+use Rattle.hc_events.specs.declared.troubles.Trouble.{Trouble}
 use Rattle.hc_head.specs.declared.head.RequestHead.{RequestHead}
 use Rattle.hc_head.specs.declared.head.Target.{Target}
 use Rattle.hc_head.specs.declared.head.TheConstants.Room.{RECEIVED}
@@ -11,7 +12,8 @@ use Rattle.hc_framing.specs.Messages.{request_form}
 use Rattle.hc_framing.specs.Reader as framing
 use Rattle.hc_links.specs.declared.requests.RequestReader.{RequestReader}
 use Rattle.hc_links.specs.Counts.{count_of}
-use Rattle.hc_links.specs.Requests.{IsServed, IsUnserved}
+use Rattle.hc_links.specs.Refusals.{IsUnservedFor}
+use Rattle.hc_links.specs.Requests.{IsServed}
 
 -- a target is kept of a head that has passed its tests alone; a head that has come may still have to be tested
 abbrev pub MayPass : Option RequestHead → Option Target → Type 0
@@ -33,16 +35,16 @@ PassesWith None None kept = kept ≡ None
 PassesWith (Some head) None kept = (target : Target) × (kept ≡ Some target) × IsServed head target
 
 -- the head fails its tests
-pub record FailsWith (head : Option RequestHead) (target : Option Target) (status : ℕ) : Type 0 where
+pub record FailsWith (head : Option RequestHead) (target : Option Target) (trouble : Trouble) : Type 0 where
   pub failed : RequestHead
   pub has_come : head ≡ Some failed
   pub untested : target ≡ None
-  pub unserved : IsUnserved failed status
+  pub unserved : IsUnservedFor failed trouble
 
--- what the tests of a head answer, once it has come: the status that refuses it
-abbrev pub GivesTest : Result (Option ℕ) AllocError → RequestReader → RequestReader → Type 0
+-- what the tests of a head answer, once it has come: why it is refused
+abbrev pub GivesTest : Result (Option Trouble) AllocError → RequestReader → RequestReader → Type 0
 GivesTest (Ok None) r s = SameOctets r s × PassesWith r.reader.head r.target s.target
-GivesTest (Ok (Some status)) r s = SameOctets r s × FailsWith r.reader.head r.target status
+GivesTest (Ok (Some trouble)) r s = SameOctets r s × FailsWith r.reader.head r.target trouble
 GivesTest (Err e) r s = Unit {0}
 
 -- a fault stands in the octets, of which the head is shown that has come

@@ -1,6 +1,7 @@
 -- A reader of requests, and the octets behind the last whole request that it was given.
 use Rattle.std.specs.Prelude.{◌≡◌, ℕ, ◌<◌, List, [], ◌++◌, length, drop, Option, Some, None, Result, Ok, Err}
 use Rattle.std.specs.declared.alloc.AllocError.{AllocError}
+use Rattle.hc_events.specs.declared.troubles.Trouble.{Trouble}
 use Rattle.hc_head.specs.declared.head.RequestHead.{RequestHead}
 use Rattle.hc_head.specs.declared.head.Target.{Target}
 use Rattle.hc_head.specs.declared.head.TheConstants.Room.{RECEIVED}
@@ -12,7 +13,8 @@ use Rattle.hc_links.specs.declared.arrival.Arrival.{Arrival}
 use Rattle.hc_links.specs.declared.arrival.Arrival.TheVariants.{Request, Refused, More}
 use Rattle.hc_links.specs.declared.requests.RequestReader.{RequestReader}
 use Rattle.hc_links.specs.Counts.{count_of}
-use Rattle.hc_links.specs.Requests.{IsServed, IsRequest, IsRefused, IsUnfinished, IsGivenUp}
+use Rattle.hc_links.specs.Refusals.{IsRefusedFor}
+use Rattle.hc_links.specs.Requests.{IsServed, IsRequest, IsUnfinished, IsGivenUp}
 
 -- the head that has come passes its tests, and its target is kept
 abbrev pub HasPassed : Option RequestHead → Option Target → Type 0
@@ -56,33 +58,33 @@ pub record TakesRequest (r : RequestReader) (octets : List ℕ) (message : Messa
 -- each answer on the octets stands only where this says so
 abbrev pub GivesNext : Result Arrival AllocError → RequestReader → List ℕ → Type 0
 GivesNext (Ok (Request message target)) r octets = TakesRequest r octets message target
-GivesNext (Ok (Refused status)) r octets = IsRefused octets status
+GivesNext (Ok (Refused trouble)) r octets = IsRefusedFor octets trouble
 GivesNext (Ok More) r octets = IsUnfinished octets × HasRead r octets
 GivesNext (Err e) r octets = Unit {0}
 
 -- the answer is that request, unless memory ran out
 abbrev pub FindsRequest : Result Arrival AllocError → Message RequestHead → Target → Type 0
 FindsRequest (Ok (Request found found_target)) message target = (found ≡ message) × (found_target ≡ target)
-FindsRequest (Ok (Refused status)) message target = ⊥
+FindsRequest (Ok (Refused trouble)) message target = ⊥
 FindsRequest (Ok More) message target = ⊥
 FindsRequest (Err e) message target = Unit {0}
 
 -- the reader can read on, where the answer doesn't refuse what it was given
 abbrev pub ReadsOn : Result Arrival AllocError → RequestReader → Type 0
 ReadsOn (Ok (Request message target)) r = CanRead r
-ReadsOn (Ok (Refused status)) r = Unit {0}
+ReadsOn (Ok (Refused trouble)) r = Unit {0}
 ReadsOn (Ok More) r = CanRead r
 ReadsOn (Err e) r = Unit {0}
 
 -- a request takes some of the octets that wait
 abbrev pub TakesSome : Result Arrival AllocError → RequestReader → RequestReader → Type 0
 TakesSome (Ok (Request message target)) r s = length (unread s) < length (unread r)
-TakesSome (Ok (Refused status)) r s = Unit {0}
+TakesSome (Ok (Refused trouble)) r s = Unit {0}
 TakesSome (Ok More) r s = Unit {0}
 TakesSome (Err e) r s = Unit {0}
 
--- each answer to the client's end stands only where this says so: the status of a last reply, or none
-abbrev pub GivesEnd : Result (Option ℕ) AllocError → List ℕ → Type 0
-GivesEnd (Ok (Some status)) octets = IsRefused octets status
+-- each answer to the client's end stands only where this says so: why a last reply refuses what came, or that there is none
+abbrev pub GivesEnd : Result (Option Trouble) AllocError → List ℕ → Type 0
+GivesEnd (Ok (Some trouble)) octets = IsRefusedFor octets trouble
 GivesEnd (Ok None) octets = IsGivenUp octets
 GivesEnd (Err e) octets = Unit {0}

@@ -1,5 +1,5 @@
 -- A reader of the response to a forward, and the octets that it was given.
-use Rattle.std.specs.Prelude.{◌≡◌, ℕ, Bool, List, Option, Some, None, Result, Ok, Err}
+use Rattle.std.specs.Prelude.{◌≡◌, ℕ, Bool, List, Result, Ok, Err}
 use Rattle.std.specs.declared.alloc.AllocError.{AllocError}
 use Rattle.hc_head.specs.declared.head.ResponseHead.{ResponseHead}
 use Rattle.hc_head.specs.declared.head.TheConstants.Room.{RECEIVED}
@@ -7,11 +7,14 @@ use Rattle.hc_framing.specs.declared.kind.Kind.TheVariants as kinds
 use Rattle.hc_framing.specs.declared.message.Message.{Message}
 use Rattle.hc_framing.specs.Messages.{response_form}
 use Rattle.hc_framing.specs.Reader as framing
+use Rattle.hc_links.specs.declared.arrival.Ended.{Ended}
+use Rattle.hc_links.specs.declared.arrival.Ended.TheVariants as ended
 use Rattle.hc_links.specs.declared.arrival.Heard.{Heard}
 use Rattle.hc_links.specs.declared.arrival.Heard.TheVariants.{Response, Failed, More}
 use Rattle.hc_links.specs.declared.responses.ResponseReader.{ResponseReader}
 use Rattle.hc_links.specs.Counts.{count_of}
-use Rattle.hc_links.specs.Responses.{Leaves, IsResponse, IsFailure, IsUnfinished, IsResponseAtEnd, IsFailureAtEnd}
+use Rattle.hc_links.specs.Failures.{IsFailureFor, IsFailureAtEndFor}
+use Rattle.hc_links.specs.Responses.{Leaves, IsResponse, IsUnfinished, IsResponseAtEnd}
 
 -- it can be given more: it has found neither a response nor a failure
 abbrev pub CanRead : ResponseReader → Type 0
@@ -28,26 +31,26 @@ pub record WasGiven (to_head : Bool) (r : ResponseReader) (octets : List ℕ) : 
 -- each answer on the octets stands only where this says so
 abbrev pub GivesHeard : Result Heard AllocError → Bool → ResponseReader → List ℕ → Type 0
 GivesHeard (Ok (Response message)) to_head r octets = IsResponse to_head octets message
-GivesHeard (Ok Failed) to_head r octets = IsFailure to_head octets
+GivesHeard (Ok (Failed trouble)) to_head r octets = IsFailureFor to_head octets trouble
 GivesHeard (Ok More) to_head r octets = IsUnfinished to_head octets × WasGiven to_head r octets
 GivesHeard (Err e) to_head r octets = Unit {0}
 
 -- the reader can read on, where nothing was found yet
 abbrev pub ReadsOn : Result Heard AllocError → ResponseReader → Type 0
 ReadsOn (Ok (Response message)) r = Unit {0}
-ReadsOn (Ok Failed) r = Unit {0}
+ReadsOn (Ok (Failed trouble)) r = Unit {0}
 ReadsOn (Ok More) r = CanRead r
 ReadsOn (Err e) r = Unit {0}
 
 -- the answer is that response, unless memory ran out
 abbrev pub FindsResponse : Result Heard AllocError → Message ResponseHead → Type 0
 FindsResponse (Ok (Response found)) message = found ≡ message
-FindsResponse (Ok Failed) message = ⊥
+FindsResponse (Ok (Failed trouble)) message = ⊥
 FindsResponse (Ok More) message = ⊥
 FindsResponse (Err e) message = Unit {0}
 
--- each answer at the origin's end stands only where this says so: the response, or that there is none
-abbrev pub GivesEnd : Result (Option (Message ResponseHead)) AllocError → Bool → List ℕ → Type 0
-GivesEnd (Ok (Some message)) to_head octets = IsResponseAtEnd to_head octets message
-GivesEnd (Ok None) to_head octets = IsFailureAtEnd to_head octets
+-- each answer at the origin's end stands only where this says so: the response, or why there is none
+abbrev pub GivesEnd : Result Ended AllocError → Bool → List ℕ → Type 0
+GivesEnd (Ok (ended.Response message)) to_head octets = IsResponseAtEnd to_head octets message
+GivesEnd (Ok (ended.Failed trouble)) to_head octets = IsFailureAtEndFor to_head octets trouble
 GivesEnd (Err e) to_head octets = Unit {0}

@@ -1,15 +1,17 @@
 //! What is read off a link.
 
+use hc_events::Trouble;
 use hc_framing::Message;
-use hc_head::{RequestHead, ResponseHead, StatusCode, Target};
+use hc_head::{RequestHead, ResponseHead, Target};
 
 /// What the octets of a client connection are.
 #[derive(Drop)]
 pub enum Arrival {
     /// A whole request, and what it asks for.
     Request(Message<RequestHead>, Target),
-    /// Nothing that is served: the status of the reply, behind which the connection closes.
-    Refused(StatusCode),
+    /// Nothing that is served, and why: `refusal_status` tells the status of the reply, behind which the connection
+    /// closes.
+    Refused(Trouble),
     /// Nothing yet.
     More,
 }
@@ -29,13 +31,13 @@ impl Arrival {
         }
     }
 
-    /// The status of a refusal, if it is one.
-    pub(crate) fn refusal(&self) -> Option<StatusCode>
+    /// Why it is refused, if it is.
+    pub(crate) fn refusal(&self) -> Option<Trouble>
         ensures { result ≡ refusal_of self.now }
     {
         match self {
             Arrival::Request(_, _) => None,
-            Arrival::Refused(status) => Some(*status),
+            Arrival::Refused(trouble) => Some(*trouble),
             Arrival::More => None,
         }
     }
@@ -46,8 +48,17 @@ impl Arrival {
 pub enum Heard {
     /// The final response.
     Response(Message<ResponseHead>),
-    /// No response, whatever follows.
-    Failed,
+    /// No response, whatever follows, and why.
+    Failed(Trouble),
     /// Nothing yet.
     More,
+}
+
+/// What the octets of an origin's connection are that has ended.
+#[derive(Drop)]
+pub enum Ended {
+    /// The final response.
+    Response(Message<ResponseHead>),
+    /// No response, and why.
+    Failed(Trouble),
 }

@@ -1,14 +1,16 @@
-//! The tests of a request's head, and the statuses that refuse requests.
+//! The tests of a request's head.
 
 ghost use Rattle.std.specs.Prelude.{◌≡◌, ◌≢◌, Err, IfOk};
 ghost use Rattle.hc_head.specs.declared.head.RequestHead.{RequestHead};
 ghost use Rattle.hc_head.specs.Targets.{GivesTarget};
 ghost use Rattle.hc_framing.specs.declared.fault.FrameFault.TheVariants.{Memory};
-ghost use Rattle.hc_links.specs.Requests.{expects, fault_status};
-ghost use Rattle.hc_links.specs.HeadParts.{GivesTested, last_status};
+ghost use Rattle.hc_links.specs.Requests.{expects};
+ghost use Rattle.hc_links.specs.HeadParts.{GivesTested};
 
+use crate::troubles::head_trouble;
+use hc_events::Trouble;
 use hc_framing::FrameFault;
-use hc_head::{HeadFault, RequestHead, StatusCode, Target, Version, target};
+use hc_head::{HeadFault, RequestHead, Target, Version, target};
 use std::alloc::{AllocError, Global};
 
 /// What the tests of a head say.
@@ -16,8 +18,8 @@ use std::alloc::{AllocError, Global};
 pub(crate) enum Tested {
     /// It asks for the target.
     Served(Target),
-    /// It is refused with the status.
-    Refused(StatusCode),
+    /// It is refused, and why.
+    Refused(Trouble),
 }
 
 /// Whether the client waits for an interim response before it sends the body.
@@ -34,7 +36,7 @@ fn without_target(fault: HeadFault) -> Result<Tested, AllocError>
     if fault == HeadFault::Memory {
         return Err(AllocError);
     }
-    Ok(Tested::Refused(StatusCode::BAD_REQUEST))
+    Ok(Tested::Refused(head_trouble(fault)))
 }
 
 /// Tests a head: first its Host line, then its target, then whether it expects something.
@@ -45,33 +47,10 @@ pub(crate) fn test_head(alloc: Global, head: &RequestHead) -> Result<Tested, All
         Err(fault) => without_target(fault),
         Ok(target) => {
             if expects(head) {
-                return Ok(Tested::Refused(StatusCode::EXPECTATION_FAILED));
+                return Ok(Tested::Refused(Trouble::Expectation));
             }
             Ok(Tested::Served(target))
         }
-    }
-}
-
-/// The status that answers a fault.
-pub(crate) fn fault_status(fault: FrameFault) -> StatusCode
-    ensures { result ≡ fault_status fault }
-{
-    match fault {
-        FrameFault::Head(HeadFault::TooManyFields | HeadFault::TooLong) =>
-            StatusCode::REQUEST_HEADER_FIELDS_TOO_LARGE,
-        FrameFault::BodyTooLong => StatusCode::CONTENT_TOO_LARGE,
-        FrameFault::BadCoding => StatusCode::NOT_IMPLEMENTED,
-        _ => StatusCode::BAD_REQUEST,
-    }
-}
-
-/// The status that answers a fault at the client's end, where what is merely cut off has no reply.
-pub(crate) fn last_status(fault: FrameFault) -> Option<StatusCode>
-    ensures { result ≡ last_status fault }
-{
-    match fault {
-        FrameFault::Truncated => None,
-        other => Some(fault_status(other)),
     }
 }
 

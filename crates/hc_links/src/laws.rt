@@ -1,10 +1,13 @@
 //! Laws of the definitions: octets are one thing.
 
 ghost use Rattle.std.specs.Prelude.{◌≡◌, ℕ, Bool, List, ◌++◌};
+ghost use Rattle.hc_events.specs.declared.troubles.Trouble.{Trouble};
 ghost use Rattle.hc_head.specs.declared.head.RequestHead.{RequestHead};
 ghost use Rattle.hc_head.specs.declared.head.ResponseHead.{ResponseHead};
 ghost use Rattle.hc_head.specs.declared.head.Target.{Target};
 ghost use Rattle.hc_framing.specs.declared.message.Message.{Message};
+ghost use Rattle.hc_links.specs.Refusals.{IsRefusedFor};
+ghost use Rattle.hc_links.specs.Troubles.{refusal_status};
 ghost use Rattle.hc_links.specs.Requests.{FailsTest, IsRefused, IsRequest, IsUnfinished};
 ghost use Rattle.hc_links.specs.Responses.{IsFailure, IsFailureAtEnd, IsResponse, IsResponseAtEnd, IsUnfinished as IsUnfinishedResponse};
 
@@ -39,4 +42,9 @@ pub fn one_response_arrives()
         → IsResponseAtEnd to_head octets message → IsResponseAtEnd to_head octets other → message ≡ other }
     ensures unfailed_at_end { (to_head : Bool) (octets : List ℕ) (message : Message ResponseHead)
         → IsResponseAtEnd to_head octets message → ¬ (IsFailureAtEnd to_head octets) }
+{}
+
+/// What is refused for some trouble is refused with the status that belongs to it.
+pub fn refusals_have_their_status()
+    ensures { (octets : List ℕ) (trouble : Trouble) → IsRefusedFor octets trouble → IsRefused octets (refusal_status trouble) }
 {}

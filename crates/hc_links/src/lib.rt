@@ -7,8 +7,10 @@ mod heads;
 mod laws;
 mod requests;
 mod responses;
+mod troubles;
 
-pub use arrival::{Arrival, Heard};
-pub use laws::{one_request_arrives, one_response_arrives};
+pub use arrival::{Arrival, Ended, Heard};
+pub use laws::{one_request_arrives, one_response_arrives, refusals_have_their_status};
 pub use requests::RequestReader;
 pub use responses::ResponseReader;
+pub use troubles::refusal_status;

@@ -3,10 +3,12 @@
 ghost use Rattle.std.specs.Prelude.{◌≡◌};
 
 use crate::arrival::Arrival;
-use crate::heads::{Tested, fault_status, last_status, test_head, unless_memory};
+use crate::heads::{Tested, test_head, unless_memory};
+use crate::troubles::{last_trouble, trouble_of};
+use hc_events::Trouble;
 use hc_fields::Waiting;
 use hc_framing::{FrameFault, Kind, MessageReader, Progress};
-use hc_head::{RequestHead, Room, StatusCode, Target};
+use hc_head::{RequestHead, Room, Target};
 use std::alloc::{AllocError, Global};
 use std::mem;
 
@@ -122,8 +124,8 @@ impl RequestReader {
         }
     }
 
-    /// Tests the head, once it has come: the status that refuses it, if it fails a test.
-    fn test(&mut self) -> Result<Option<StatusCode>, AllocError>
+    /// Tests the head, once it has come: why it is refused, if it fails a test.
+    fn test(&mut self) -> Result<Option<Trouble>, AllocError>
         ensures { GivesTest result self.old self.new }
     {
         if self.target.is_some() {
@@ -133,7 +135,7 @@ impl RequestReader {
             return Ok(None);
         };
         match test_head(self.alloc, head)? {
-            Tested::Refused(status) => Ok(Some(status)),
+            Tested::Refused(trouble) => Ok(Some(trouble)),
             Tested::Served(target) => {
                 self.target = Some(target);
                 Ok(None)
@@ -141,7 +143,7 @@ impl RequestReader {
         }
     }
 
-    /// Tells the status of a fault; the tests of the head come before the faults of the body.
+    /// Refuses the octets for a fault; the tests of the head come before the faults of the body.
     fn refuse(&mut self, fault: FrameFault) -> Result<Arrival, AllocError>
         ensures gives { (octets : List ℕ) → HasMet self.old fault octets → GivesNext result self.new octets }
         ensures shrinks { TakesSome result self.old self.new }
@@ -149,8 +151,8 @@ impl RequestReader {
     {
         let fault = unless_memory(fault)?;
         match self.test()? {
-            Some(status) => Ok(Arrival::Refused(status)),
-            None => Ok(Arrival::Refused(fault_status(fault))),
+            Some(trouble) => Ok(Arrival::Refused(trouble)),
+            None => Ok(Arrival::Refused(trouble_of(fault))),
         }
     }
 
@@ -163,7 +165,7 @@ impl RequestReader {
     {
         self.waits.clear();
         match self.test()? {
-            Some(status) => Ok(Arrival::Refused(status)),
+            Some(trouble) => Ok(Arrival::Refused(trouble)),
             None => Ok(Arrival::More),
         }
     }
@@ -179,7 +181,7 @@ impl RequestReader {
         ensures can { ReadsOn result self.new }
     {
         match self.test()? {
-            Some(status) => Ok(Arrival::Refused(status)),
+            Some(trouble) => Ok(Arrival::Refused(trouble)),
             None => {
                 self.waits.skip(used);
                 self.heard = self.unread();
@@ -191,9 +193,9 @@ impl RequestReader {
         }
     }
 
-    /// Says that the client sends no more: the status of a last reply, or none. A request that waits
-    /// whole is given up.
-    pub fn end(&mut self) -> Result<Option<StatusCode>, AllocError>
+    /// Says that the client sends no more: why what came is refused by a last reply, or that there is none. A request
+    /// that waits whole is given up.
+    pub fn end(&mut self) -> Result<Option<Trouble>, AllocError>
         requires { CanRead self.old }
         // Each answer stands only where it says so.
         ensures gives { (octets : List ℕ) → WasGiven self.old octets → GivesEnd result octets }
@@ -206,13 +208,13 @@ impl RequestReader {
     }
 
     /// Gives up what has begun, or refuses it where no head can come of it.
-    fn close(&mut self) -> Result<Option<StatusCode>, AllocError>
+    fn close(&mut self) -> Result<Option<Trouble>, AllocError>
         requires { CanRead self.old }
         ensures gives { (octets : List ℕ) → IsUnfinished octets → HasRead self.old octets → GivesEnd result octets }
     {
         match self.reader.end() {
             Ok(_) => Ok(None),
-            Err(fault) => Ok(last_status(unless_memory(fault)?)),
+            Err(fault) => Ok(last_trouble(unless_memory(fault)?)),
         }
     }
 }

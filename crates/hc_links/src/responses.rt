@@ -2,8 +2,10 @@
 
 ghost use Rattle.std.specs.Prelude.{◌≡◌};
 
-use crate::arrival::Heard;
+use crate::arrival::{Ended, Heard};
 use crate::heads::unless_memory;
+use crate::troubles::trouble_of;
+use hc_events::Trouble;
 use hc_framing::{Kind, Message, MessageReader, Progress};
 use hc_head::{ResponseHead, Room, StatusCode, is_interim};
 use std::alloc::{AllocError, Global};
@@ -117,10 +119,7 @@ impl ResponseReader {
         ensures can { PartReadsOn result self.new }
     {
         match self.reader.feed(piece) {
-            Err(fault) => {
-                unless_memory(fault)?;
-                Ok(Part::Last(Heard::Failed))
-            }
+            Err(fault) => Ok(Part::Last(Heard::Failed(trouble_of(unless_memory(fault)?)))),
             Ok(Progress::More) => {
                 self.heard = self.heard.saturating_add(piece.len());
                 Ok(Part::Last(Heard::More))
@@ -156,27 +155,27 @@ impl ResponseReader {
         if !is_interim(status) {
             return Part::Last(Heard::Response(message));
         }
-        if status == StatusCode::SWITCHING_PROTOCOLS || self.interim >= MOST_INTERIM {
-            return Part::Last(Heard::Failed);
+        if status == StatusCode::SWITCHING_PROTOCOLS {
+            return Part::Last(Heard::Failed(Trouble::SwitchesProtocol));
+        }
+        if self.interim >= MOST_INTERIM {
+            return Part::Last(Heard::Failed(Trouble::TooManyInterim));
         }
         self.interim += 1;
         self.heard = self.heard.saturating_add(used);
         Part::Interim(used)
     }
 
-    /// Says that no more octets come: the response, which may last until then, or none.
-    pub fn end(&mut self) -> Result<Option<Message<ResponseHead>>, AllocError>
+    /// Says that no more octets come: the response, which may last until then, or why there is none.
+    pub fn end(&mut self) -> Result<Ended, AllocError>
         requires { CanRead self.old }
         // Each answer stands only where it says so.
         ensures gives { (to_head : Bool) (octets : List ℕ) → WasGiven to_head self.old octets
             → GivesEnd result to_head octets }
     {
         match self.reader.end() {
-            Err(fault) => {
-                unless_memory(fault)?;
-                Ok(None)
-            }
-            Ok(_) => Ok(Some(self.take_message())),
+            Err(fault) => Ok(Ended::Failed(trouble_of(unless_memory(fault)?))),
+            Ok(_) => Ok(Ended::Response(self.take_message())),
         }
     }
 }

@@ -146,7 +146,7 @@ module _ (wanted : Wanted) (target : Target) (request : Message RequestHead) (un
 module _ (S H : Type 0) (settings : CoreSettings) (d : Desk S H) (s : State) (c : ℕ) (k : Connection) (client : Client) (request : Message RequestHead) (target : Target) (size : ℕ) where
   -- the request has its record, and its reaction
   pub record HasReaction (closes : Bool) (exchange : ℕ) (numbers : Numbers) (before after : List Action) (reaction : Reaction) (store : Holdings) : Type 0 where
-    pub closes_is : closes ≡ (ends_connection request.head || client.leaves)
+    pub closes_is : closes ≡ (ends_connection request.head || (client.leaves || d.numbers.closing))
     pub exchange_is : exchange ≡ one_more d.numbers.exchange
     pub numbers_are : numbers ≡ asked d.numbers
     pub actions_are : after ≡ before ++ ask_actions (one_more d.numbers.exchange) d.numbers.moment request
@@ -168,8 +168,8 @@ module _ (S H : Type 0) (settings : CoreSettings) (d : Desk S H) (s : State) (c 
     forward_now : one_more numbers.forward ≡ one_more s.numbers.forward
     forward_now = ap (λ (n : Numbers). one_more n.forward) numbers_now
 
-    closes_now : closes ≡ closes_behind request.head k
-    closes_now = has.closes_is ∙ ap (λ (b : Bool). ends_connection request.head || b) is.leaves
+    closes_now : closes ≡ closes_behind request.head k s.numbers
+    closes_now = has.closes_is ∙ (λ i. ends_connection request.head || (is.leaves i || (stands.numbers i).closing))
 
     asked_now : mid ≡ before ++ ask_actions (one_more s.numbers.exchange) s.numbers.moment request
     asked_now = has.actions_are ∙ ap (λ (n : Numbers). before ++ ask_actions (one_more n.exchange) n.moment request) stands.numbers
@@ -191,18 +191,18 @@ module _ (S H : Type 0) (settings : CoreSettings) (d : Desk S H) (s : State) (c 
   pub asks_reply : (closes : Bool) (exchange : ℕ) (n : Numbers) (before mid after : List Action) (reply : Message ResponseHead) (store : Holdings) (new : Desk S H)
       → DeskStandsFor {S = S} {H = H} settings d (without_connection c s) → get s.connections c ≡ Some k → IsAsked client k request target size
       → HasReaction closes exchange n before mid (Replies reply None) store
-      → SendsReply {S = S} {H = H} (record { number = exchange; exchange = record { connection = c; request = request.head; target = target; waits_for = None }; client = client }) closes reply (at_desk mid (record { alloc = d.alloc; name = d.name; numbers = n; clients = d.clients; exchanges = d.exchanges; links = d.links; store = store })) (at_desk after new)
+      → SendsReply {S = S} {H = H} (record { number = exchange; exchange = record { connection = c; request = request.head; target = target; waits_for = None }; client = client }) closes reply (at_desk mid (record { alloc = d.alloc; incidents = d.incidents; name = d.name; numbers = n; clients = d.clients; exchanges = d.exchanges; links = d.links; store = store })) (at_desk after new)
       → GivesTurn {S = S} {H = H} (from_state settings s before) (Asking c) (at_desk after new)
   asks_reply closes exchange n before mid after reply store new stands there is has gives =
       let e = exchange_now closes exchange n before mid (Replies reply None) store stands there is has in
       let t = moment_now closes exchange n before mid (Replies reply None) store stands there is has in
       let b = closes_now closes exchange n before mid (Replies reply None) store stands there is has in
       let behind = drop size k.unread in
-      let answer : List Action = reply_actions (one_more s.numbers.exchange) s.numbers.moment (is_head request.head.method) c (closes_behind request.head k) reply in
+      let answer : List Action = reply_actions (one_more s.numbers.exchange) s.numbers.moment (is_head request.head.method) c (closes_behind request.head k s.numbers) reply in
       record {
         state = record {
           numbers = noted (asked s.numbers);
-          connections = replied (closes_behind request.head k) c behind k s.connections;
+          connections = replied (closes_behind request.head k s.numbers) c behind k s.connections;
           exchanges = s.exchanges;
           forwards = s.forwards;
           store = store;
@@ -239,7 +239,7 @@ module _ (S H : Type 0) (settings : CoreSettings) (d : Desk S H) (s : State) (c 
   pub asks_validation : (closes : Bool) (exchange : ℕ) (n : Numbers) (before mid after : List Action) (reply : Message ResponseHead) (validation : Message RequestHead) (store : Holdings) (new : Desk S H)
       → DeskStandsFor {S = S} {H = H} settings d (without_connection c s) → get s.connections c ≡ Some k → IsAsked client k request target size
       → HasReaction closes exchange n before mid (Replies reply (Some validation)) store
-      → SendsReplyThenBehind {S = S} {H = H} (record { number = exchange; exchange = record { connection = c; request = request.head; target = target; waits_for = None }; client = client }) closes reply validation (at_desk mid (record { alloc = d.alloc; name = d.name; numbers = n; clients = d.clients; exchanges = d.exchanges; links = d.links; store = store })) (at_desk after new)
+      → SendsReplyThenBehind {S = S} {H = H} (record { number = exchange; exchange = record { connection = c; request = request.head; target = target; waits_for = None }; client = client }) closes reply validation (at_desk mid (record { alloc = d.alloc; incidents = d.incidents; name = d.name; numbers = n; clients = d.clients; exchanges = d.exchanges; links = d.links; store = store })) (at_desk after new)
       → GivesTurn {S = S} {H = H} (from_state settings s before) (Asking c) (at_desk after new)
   asks_validation closes exchange n before mid after reply validation store new stands there is has gives =
       let e = exchange_now closes exchange n before mid (Replies reply (Some validation)) store stands there is has in
@@ -248,12 +248,12 @@ module _ (S H : Type 0) (settings : CoreSettings) (d : Desk S H) (s : State) (c 
       let f = forward_now closes exchange n before mid (Replies reply (Some validation)) store stands there is has in
       let reacts = reacts_now closes exchange n before mid (Replies reply (Some validation)) store stands there is has in
       let behind = drop size k.unread in
-      let answer : List Action = reply_actions (one_more s.numbers.exchange) s.numbers.moment (is_head request.head.method) c (closes_behind request.head k) reply in
+      let answer : List Action = reply_actions (one_more s.numbers.exchange) s.numbers.moment (is_head request.head.method) c (closes_behind request.head k s.numbers) reply in
       let sends : List Action = send_actions (one_more s.numbers.forward) s.numbers.moment None validation in
       record {
         state = record {
           numbers = sent (noted (asked s.numbers));
-          connections = replied (closes_behind request.head k) c behind k s.connections;
+          connections = replied (closes_behind request.head k s.numbers) c behind k s.connections;
           exchanges = s.exchanges;
           forwards = insert s.forwards (one_more s.numbers.forward) (sent_forward validation.head target s.numbers.moment purpose.Background);
           store = store;
@@ -292,7 +292,7 @@ module _ (S H : Type 0) (settings : CoreSettings) (d : Desk S H) (s : State) (c 
   pub asks_forward : (closes : Bool) (exchange : ℕ) (n : Numbers) (before mid after : List Action) (forward : Message RequestHead) (why : Cause) (kind : ForwardKind) (store : Holdings) (new : Desk S H)
       → DeskStandsFor {S = S} {H = H} settings d (without_connection c s) → get s.connections c ≡ Some k → IsAsked client k request target size
       → HasReaction closes exchange n before mid (Sends forward why kind) store
-      → SendsForward {S = S} {H = H} (record { number = exchange; exchange = record { connection = c; request = request.head; target = target; waits_for = None }; client = client }) forward (purpose.Reply exchange why kind) (at_desk mid (record { alloc = d.alloc; name = d.name; numbers = n; clients = d.clients; exchanges = d.exchanges; links = d.links; store = store })) (at_desk after new)
+      → SendsForward {S = S} {H = H} (record { number = exchange; exchange = record { connection = c; request = request.head; target = target; waits_for = None }; client = client }) forward (purpose.Reply exchange why kind) (at_desk mid (record { alloc = d.alloc; incidents = d.incidents; name = d.name; numbers = n; clients = d.clients; exchanges = d.exchanges; links = d.links; store = store })) (at_desk after new)
       → GivesTurn {S = S} {H = H} (from_state settings s before) (Asking c) (at_desk after new)
   asks_forward closes exchange n before mid after forward why kind store new stands there is has gives =
       let e = exchange_now closes exchange n before mid (Sends forward why kind) store stands there is has in
@@ -345,7 +345,7 @@ module _ (S H : Type 0) (settings : CoreSettings) (d : Desk S H) (s : State) (c 
   pub asks_join : (closes : Bool) (exchange : ℕ) (n : Numbers) (before mid : List Action) (forward : ℕ) (store : Holdings) (new : Desk S H)
       → DeskStandsFor {S = S} {H = H} settings d (without_connection c s) → get s.connections c ≡ Some k → IsAsked client k request target size
       → HasReaction closes exchange n before mid (Waits forward) store
-      → JoinsForward {S = S} {H = H} (record { number = exchange; exchange = record { connection = c; request = request.head; target = target; waits_for = None }; client = client }) forward (record { alloc = d.alloc; name = d.name; numbers = n; clients = d.clients; exchanges = d.exchanges; links = d.links; store = store }) new
+      → JoinsForward {S = S} {H = H} (record { number = exchange; exchange = record { connection = c; request = request.head; target = target; waits_for = None }; client = client }) forward (record { alloc = d.alloc; incidents = d.incidents; name = d.name; numbers = n; clients = d.clients; exchanges = d.exchanges; links = d.links; store = store }) new
       → GivesTurn {S = S} {H = H} (from_state settings s before) (Asking c) (at_desk mid new)
   asks_join closes exchange n before mid forward store new stands there is has gives =
       let e = exchange_now closes exchange n before mid (Waits forward) store stands there is has in
@@ -394,7 +394,7 @@ module _ (S H : Type 0) (settings : CoreSettings) (d : Desk S H) (s : State) (c 
       (result : Result A E) (new : Desk S H)
       → DeskStandsFor {S = S} {H = H} settings d (without_connection c s) → get s.connections c ≡ Some k → IsAsked client k request target size
       → HasReaction S H settings d s c k client request target size closes exchange n before mid (Replies reply behind) store
-      → OnOk result (SendsReplies {S = S} {H = H} (record { number = exchange; exchange = record { connection = c; request = request.head; target = target; waits_for = None }; client = client }) closes reply behind (at_desk mid (record { alloc = d.alloc; name = d.name; numbers = n; clients = d.clients; exchanges = d.exchanges; links = d.links; store = store })) (at_desk after new))
+      → OnOk result (SendsReplies {S = S} {H = H} (record { number = exchange; exchange = record { connection = c; request = request.head; target = target; waits_for = None }; client = client }) closes reply behind (at_desk mid (record { alloc = d.alloc; incidents = d.incidents; name = d.name; numbers = n; clients = d.clients; exchanges = d.exchanges; links = d.links; store = store })) (at_desk after new))
       → OnOk result (GivesTurn {S = S} {H = H} (from_state settings s before) (Asking c) (at_desk after new))
   asks_replies closes exchange n before mid after reply None store (Ok x) new stands there is has gives =
       asks_reply S H settings d s c k client request target size closes exchange n before mid after reply store new stands there is has gives

@@ -26,7 +26,7 @@ module _ (S H : Type 0) (settings : CoreSettings) (d : Desk S H) (s : State) whe
 
   -- what is kept with other connections is that of the state with them
   pub stands_connected : (clients : BTreeMap ℕ Client) (connections : Table Connection) → DeskStandsFor {S = S} {H = H} settings d s → AreClients clients connections
-      → DeskStandsFor {S = S} {H = H} settings (record { alloc = d.alloc; name = d.name; numbers = d.numbers; clients = clients; exchanges = d.exchanges; links = d.links; store = d.store }) (connected connections)
+      → DeskStandsFor {S = S} {H = H} settings (record { alloc = d.alloc; incidents = d.incidents; name = d.name; numbers = d.numbers; clients = clients; exchanges = d.exchanges; links = d.links; store = d.store }) (connected connections)
   stands_connected clients connections stands are = record {
     name = stands.name;
     numbers = stands.numbers;
@@ -39,7 +39,7 @@ module _ (S H : Type 0) (settings : CoreSettings) (d : Desk S H) (s : State) whe
 
   pub opened : (c : ℕ) (numbers : Numbers) (clients : BTreeMap ℕ Client) → DeskStandsFor {S = S} {H = H} settings d s → is_later c s.numbers.connection ≡ true → len s.connections < s.numbers.room
       → numbers ≡ after_opening c d.numbers → AreClients clients (insert s.connections c new_connection)
-      → GivesTurn {S = S} {H = H} (from_state settings s []) (Opening c) (at_desk [] (record { alloc = d.alloc; name = d.name; numbers = numbers; clients = clients; exchanges = d.exchanges; links = d.links; store = d.store }))
+      → GivesTurn {S = S} {H = H} (from_state settings s []) (Opening c) (at_desk [] (record { alloc = d.alloc; incidents = d.incidents; name = d.name; numbers = numbers; clients = clients; exchanges = d.exchanges; links = d.links; store = d.store }))
   opened c numbers clients stands later place is are = record {
     state = record {
       numbers = after_opening c s.numbers;
@@ -74,7 +74,7 @@ module _ (S H : Type 0) (settings : CoreSettings) (d : Desk S H) (s : State) whe
 
   pub heard : (c : ℕ) (octets : List ℕ) (k : Connection) (clients : BTreeMap ℕ Client) → DeskStandsFor {S = S} {H = H} settings d s → get s.connections c ≡ Some k
       → AreClients clients (insert s.connections c (after_client_octets octets k))
-      → GivesTurn {S = S} {H = H} (from_state settings s []) (ClientSending c octets) (at_desk [] (record { alloc = d.alloc; name = d.name; numbers = d.numbers; clients = clients; exchanges = d.exchanges; links = d.links; store = d.store }))
+      → GivesTurn {S = S} {H = H} (from_state settings s []) (ClientSending c octets) (at_desk [] (record { alloc = d.alloc; incidents = d.incidents; name = d.name; numbers = d.numbers; clients = clients; exchanges = d.exchanges; links = d.links; store = d.store }))
   heard c octets k clients stands there are = record {
     state = connected (insert s.connections c (after_client_octets octets k));
     stands = stands_connected clients _ stands are;

@@ -170,19 +170,19 @@ module _ (S H : Type 0) (settings : CoreSettings) (d : Desk S H) (s : State) (f 
         let k = taken.connection in
         let n : mid.numbers ≡ noted s.numbers = numbers_ended first before after mid ended in
         let m : mid.numbers.moment ≡ s.numbers.moment = ap (λ (y : Numbers). y.moment) n in
-        let b : is_last w ≡ closes_behind x.request k = ap (λ (c : Bool). ends_connection x.request || c) taken.is_client.leaves in
+        let b : is_last mid.numbers w ≡ closes_behind x.request k s.numbers = λ i. ends_connection x.request || (taken.is_client.leaves i || (n i).closing) in
         let name : mid.name ≡ settings.name = ended.name ∙ stands.name in
         let wanted : wanted_of mid w ≡ wanted_now settings s x.request k =
         λ i. record { name = name i; moment = m i; asked = x.request; closes = b i } in
         let reply = gives.reply in
         let left : State = record {
           numbers = noted (noted s.numbers);
-          connections = replied (closes_behind x.request k) x.connection k.unread k s.connections;
+          connections = replied (closes_behind x.request k s.numbers) x.connection k.unread k s.connections;
           exchanges = remove s.exchanges e;
           forwards = remove s.forwards f;
           store = new.store;
         } in
-        let replies : List Action = reply_actions e s.numbers.moment (is_head x.request.method) x.connection (closes_behind x.request k) reply in
+        let replies : List Action = reply_actions e s.numbers.moment (is_head x.request.method) x.connection (closes_behind x.request k s.numbers) reply in
         record {
           state = left;
           stands = record {
@@ -200,7 +200,7 @@ module _ (S H : Type 0) (settings : CoreSettings) (d : Desk S H) (s : State) (f 
           takes = λ ready. (
             (
               first ++ replies,
-              gives.replies.actions ∙ ap (λ (l : List Action). l ++ reply_actions w.number mid.numbers.moment (is_head x.request.method) x.connection (is_last w) reply) ended.actions
+              gives.replies.actions ∙ ap (λ (l : List Action). l ++ reply_actions w.number mid.numbers.moment (is_head x.request.method) x.connection (is_last mid.numbers w) reply) ended.actions
                   ∙ append_assoc before first _ ∙ (λ i. before ++ (first ++ reply_actions (taken.number_is i) (m i) (is_head x.request.method) x.connection (b i) reply)),
               takes (first ++ replies) left (record {
                 exchange = x;
@@ -228,7 +228,7 @@ module _ (S H : Type 0) (settings : CoreSettings) (d : Desk S H) (s : State) (f 
         let n : mid.numbers ≡ noted s.numbers = numbers_ended first before after mid ended in
         let m : mid.numbers.moment ≡ s.numbers.moment = ap (λ (y : Numbers). y.moment) n in
         let next : one_more mid.numbers.forward ≡ one_more s.numbers.forward = ap (λ (y : Numbers). one_more y.forward) n in
-        let b : is_last w ≡ closes_behind x.request k = ap (λ (c : Bool). ends_connection x.request || c) taken.is_client.leaves in
+        let b : is_last mid.numbers w ≡ closes_behind x.request k s.numbers = λ i. ends_connection x.request || (taken.is_client.leaves i || (n i).closing) in
         let name : mid.name ≡ settings.name = ended.name ∙ stands.name in
         let wanted : wanted_of mid w ≡ wanted_now settings s x.request k =
         λ i. record { name = name i; moment = m i; asked = x.request; closes = b i } in

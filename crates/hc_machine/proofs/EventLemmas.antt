@@ -5,7 +5,7 @@ use Rattle.std.specs.declared.alloc.AllocError.{AllocError}
 use Rattle.std.specs.declared.vec.Vec.{Vec}
 use Rattle.hc_events.specs.declared.Event.{Event}
 use Rattle.hc_events.specs.declared.Happening.{Happening}
-use Rattle.hc_events.specs.declared.Happening.TheVariants.{ClientOpened, ClientBytes, ClientEnd, OriginBytes, OriginEnd, OriginFailed}
+use Rattle.hc_events.specs.declared.Happening.TheVariants.{ClientOpened, ClientBytes, ClientEnd, OriginBytes, OriginEnd, OriginFailed, Stopping}
 use Rattle.hc_fields.specs.Numbers.{end_of_moments}
 use Rattle.hc_service.specs.declared.action.Action.{Action}
 use Rattle.hc_service.specs.declared.fault.StepFault.{StepFault}
@@ -17,6 +17,7 @@ use Rattle.hc_service.specs.Serves.{Owes, Turn, first_fault, is_full, is_known, 
 use Rattle.hc_service.specs.State.{State}
 use Rattle.hc_transcript.specs.Limits.{greatest_moment}
 use Rattle.hc_machine.specs.declared.desk.Desk.{Desk}
+use Rattle.hc_machine.specs.declared.incidents.Incidents.{Incidents}
 use Rattle.hc_machine.specs.Happenings.{CanTake, GivesDoing, TakesOn}
 use Rattle.hc_machine.specs.Standing.{CanServe, GivesService, IsKept, DeskStandsFor}
 use Rattle.hc_machine.specs.Steps.{Cache, CanStep, GivesStep, IsOfTest, StandsFor, TellsFirst, cache_of}
@@ -75,6 +76,7 @@ owes_now moment s (ClientEnd c) turns s' owes = owes
 owes_now moment s (OriginBytes f octets) turns s' owes = owes
 owes_now moment s (OriginEnd f) turns s' owes = owes
 owes_now moment s (OriginFailed f) turns s' owes = owes
+owes_now moment s Stopping turns s' owes = owes
 
 known_then : (moment : ℕ) (s : State) (of : Happening) → is_known of s ≡ true → is_known of (passed_to moment s) ≡ true
 known_then moment s (ClientOpened c) known = known
@@ -83,6 +85,7 @@ known_then moment s (ClientEnd c) known = known
 known_then moment s (OriginBytes f octets) known = known
 known_then moment s (OriginEnd f) known = known
 known_then moment s (OriginFailed f) known = known
+known_then moment s Stopping known = known
 
 place_then : (moment : ℕ) (s : State) (of : Happening) → is_full of s ≡ false → is_full of (passed_to moment s) ≡ false
 place_then moment s (ClientOpened c) place = place
@@ -91,14 +94,15 @@ place_then moment s (ClientEnd c) place = place
 place_then moment s (OriginBytes f octets) place = place
 place_then moment s (OriginEnd f) place = place
 place_then moment s (OriginFailed f) place = place
+place_then moment s Stopping place = place
 
 module _ (S H : Type 0) where
   -- the moment has come
-  pub passed : (settings : CoreSettings) (moment : ℕ) (d : Desk S H) (s : State) (numbers : Numbers) → DeskStandsFor {S = S} {H = H} settings d s → moment < end_of_moments
+  pub passed : (settings : CoreSettings) (moment : ℕ) (d : Desk S H) (s : State) (numbers : Numbers) (incidents : Incidents) → DeskStandsFor {S = S} {H = H} settings d s → moment < end_of_moments
       → numbers ≡ at_moment moment d.numbers
       → DeskStandsFor {S = S} {H = H} settings
-      (record { alloc = d.alloc; name = d.name; numbers = numbers; clients = d.clients; exchanges = d.exchanges; links = d.links; store = d.store }) (passed_to moment s)
-  passed settings moment d s numbers stands in-time is = record {
+      (record { alloc = d.alloc; incidents = incidents; name = d.name; numbers = numbers; clients = d.clients; exchanges = d.exchanges; links = d.links; store = d.store }) (passed_to moment s)
+  passed settings moment d s numbers incidents stands in-time is = record {
     name = stands.name;
     numbers = is ∙ ap (at_moment moment) stands.numbers;
     clients = stands.clients;
@@ -111,12 +115,12 @@ module _ (S H : Type 0) where
       within : (a b : ℕ) → a < end_of_moments → b < end_of_moments → max a b < end_of_moments
       within a b less other = omega (arith, less, other)
 
-  pub can_take_then : (moment : ℕ) (of : Happening) (d : Desk S H) (numbers : Numbers) → CanTake {S = S} {H = H} of d → moment < end_of_moments → numbers ≡ at_moment moment d.numbers
-      → CanTake {S = S} {H = H} of (record { alloc = d.alloc; name = d.name; numbers = numbers; clients = d.clients; exchanges = d.exchanges; links = d.links; store = d.store })
-  can_take_then moment of d numbers can in-time is = record {
+  pub can_take_then : (moment : ℕ) (of : Happening) (d : Desk S H) (numbers : Numbers) (incidents : Incidents) → CanTake {S = S} {H = H} of d → moment < end_of_moments → numbers ≡ at_moment moment d.numbers
+      → CanTake {S = S} {H = H} of (record { alloc = d.alloc; incidents = incidents; name = d.name; numbers = numbers; clients = d.clients; exchanges = d.exchanges; links = d.links; store = d.store })
+  can_take_then moment of d numbers incidents can in-time is = record {
     settings = can.settings;
     state = passed_to moment can.state;
-    stands = passed can.settings moment d can.state numbers can.stands in-time is;
+    stands = passed can.settings moment d can.state numbers incidents can.stands in-time is;
     known = known_then moment can.state of can.known;
     has_place = place_then moment can.state of can.has_place;
   }

@@ -3,6 +3,9 @@ use Rattle.std.proofs.Common.{append-nil, ◌≡◌, ℕ, Bool, true, false, Lis
 use Rattle.std.specs.BTreeMap.{BTreeMap}
 use Rattle.std.specs.FinMap.{get, insert, remove}
 use Rattle.hc_links.specs.RequestReading as requests
+use Rattle.hc_events.specs.declared.troubles.Trouble.{Trouble}
+use Rattle.hc_links.proofs.HeadLemmas.{refused_for}
+use Rattle.hc_links.specs.Troubles.{refusal_status}
 use Rattle.hc_links.specs.Requests.{HasRequest, IsCutOff, IsRefused, IsUnfinished}
 use Rattle.hc_links.proofs.RequestLaws.{request_not_unfinished}
 use Rattle.hc_replies.specs.Replies.{generated_reply}
@@ -27,12 +30,12 @@ on_ok (Ok x) f p = f p
 on_ok (Err e) f p = tt
 
 -- what a reader says of the client's end
-pub refused_at_end : (answer : Option ℕ) (status : ℕ) (octets : List ℕ) → answer ≡ Some status → requests.GivesEnd (Ok answer) octets → IsRefused octets status
-refused_at_end answer status octets is gives = subst (λ (o : Option ℕ). requests.GivesEnd (Ok o) octets) is gives
+pub refused_at_end : (answer : Option Trouble) (trouble : Trouble) (octets : List ℕ) → answer ≡ Some trouble → requests.GivesEnd (Ok answer) octets → IsRefused octets (refusal_status trouble)
+refused_at_end answer trouble octets is gives = refused_for octets trouble (subst (λ (o : Option Trouble). requests.GivesEnd (Ok o) octets) is gives)
 
 -- no whole request is there where none had come, so it is cut off
-pub cut_off_at_end : (answer : Option ℕ) (octets : List ℕ) → answer ≡ None → requests.GivesEnd (Ok answer) octets → IsUnfinished octets → IsCutOff octets
-cut_off_at_end answer octets is gives unfinished = go (subst (λ (o : Option ℕ). requests.GivesEnd (Ok o) octets) is gives)
+pub cut_off_at_end : (answer : Option Trouble) (octets : List ℕ) → answer ≡ None → requests.GivesEnd (Ok answer) octets → IsUnfinished octets → IsCutOff octets
+cut_off_at_end answer octets is gives unfinished = go (subst (λ (o : Option Trouble). requests.GivesEnd (Ok o) octets) is gives)
   where
     go : HasRequest octets ⊎ IsCutOff octets → IsCutOff octets
     go (inl has) = absurd (request_not_unfinished octets has.message has.target has.len has.is_request unfinished)
@@ -41,7 +44,7 @@ cut_off_at_end answer octets is gives unfinished = go (subst (λ (o : Option ℕ
 module _ (S H : Type 0) (settings : CoreSettings) (c : ℕ) where
   -- a client that is taken out leaves what the state without it has
   pub left_without : (d : Desk S H) (s : State) (clients : BTreeMap ℕ Client) → DeskStandsFor {S = S} {H = H} settings d s → AreClients clients (remove s.connections c)
-      → DeskStandsFor {S = S} {H = H} settings (record { alloc = d.alloc; name = d.name; numbers = d.numbers; clients = clients; exchanges = d.exchanges; links = d.links; store = d.store })
+      → DeskStandsFor {S = S} {H = H} settings (record { alloc = d.alloc; incidents = d.incidents; name = d.name; numbers = d.numbers; clients = clients; exchanges = d.exchanges; links = d.links; store = d.store })
       (without_connection c s)
   left_without d s clients stands are = record {
     name = stands.name;
@@ -66,7 +69,7 @@ module _ (S H : Type 0) (settings : CoreSettings) (c : ℕ) where
 
     -- what is kept with other clients
     abbrev with_clients : BTreeMap ℕ Client → Desk S H
-    with_clients clients = record { alloc = d.alloc; name = d.name; numbers = d.numbers; clients = clients; exchanges = d.exchanges; links = d.links; store = d.store }
+    with_clients clients = record { alloc = d.alloc; incidents = d.incidents; name = d.name; numbers = d.numbers; clients = clients; exchanges = d.exchanges; links = d.links; store = d.store }
 
     stands_with : (clients : BTreeMap ℕ Client) (connections : Table Connection) → AreClients clients connections
         → DeskStandsFor {S = S} {H = H} settings (with_clients clients)
@@ -83,7 +86,7 @@ module _ (S H : Type 0) (settings : CoreSettings) (c : ℕ) where
 
     -- nothing more was read of it: it is put back as it was
     pub ends_unread : (clients : BTreeMap ℕ Client) (items : List Action) → k.leaves ≡ true → AreClients clients (insert (remove s.connections c) c k)
-        → GivesEnd {S = S} {H = H} (from_state settings s items) c k (at_desk items (record { alloc = d.alloc; name = d.name; numbers = d.numbers; clients = clients; exchanges = d.exchanges; links = d.links; store = d.store }))
+        → GivesEnd {S = S} {H = H} (from_state settings s items) c k (at_desk items (record { alloc = d.alloc; incidents = d.incidents; name = d.name; numbers = d.numbers; clients = clients; exchanges = d.exchanges; links = d.links; store = d.store }))
     ends_unread clients items leaves are = record {
       state = s;
       stands = stands_with clients s.connections (subst (AreClients clients) (put_back s.connections c k ∙ put_same s.connections c k there) are);
@@ -102,7 +105,7 @@ module _ (S H : Type 0) (settings : CoreSettings) (c : ℕ) where
     -- what is unread behind the request is given up
     pub ends_busy : (clients : BTreeMap ℕ Client) (items : List Action) (exchange : ℕ) → k.leaves ≡ false → k.exchange ≡ Some exchange
         → AreClients clients (insert (remove s.connections c) c (after_leaving k))
-        → GivesEnd {S = S} {H = H} (from_state settings s items) c k (at_desk items (record { alloc = d.alloc; name = d.name; numbers = d.numbers; clients = clients; exchanges = d.exchanges; links = d.links; store = d.store }))
+        → GivesEnd {S = S} {H = H} (from_state settings s items) c k (at_desk items (record { alloc = d.alloc; incidents = d.incidents; name = d.name; numbers = d.numbers; clients = clients; exchanges = d.exchanges; links = d.links; store = d.store }))
     ends_busy clients items exchange stays awaits are = record {
       state = with_connection (after_leaving k);
       stands = stands_with clients (insert s.connections c (after_leaving k)) (subst (AreClients clients) (put_back s.connections c (after_leaving k)) are);

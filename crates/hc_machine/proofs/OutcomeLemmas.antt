@@ -34,7 +34,7 @@ module _ (S H : Type 0) (settings : CoreSettings) (d : Desk S H) (s : State) (f 
   -- what is kept once the end has its record
   abbrev pub behind_end : Numbers → BTreeMap ℕ Client → OpenExchanges → Holdings → Desk S H
   behind_end numbers clients exchanges store =
-      record { alloc = d.alloc; name = d.name; numbers = numbers; clients = clients; exchanges = exchanges; links = d.links; store = store }
+      record { alloc = d.alloc; incidents = d.incidents; name = d.name; numbers = numbers; clients = clients; exchanges = exchanges; links = d.links; store = store }
 
   -- ---- a response
 

@@ -117,7 +117,7 @@ module _ (S H : Type 0) (settings : CoreSettings) (c : ℕ) where
   module _ (d : Desk S H) (s : State) (k : Connection) (stands : DeskStandsFor {S = S} {H = H} settings d (without_connection c s)) (there : get s.connections c ≡ Some k) where
     -- a connection that is put back as it was
     pub reads_nothing : (clients : BTreeMap ℕ Client) (items : List Action) → AreClients clients (insert (remove s.connections c) c k) → IsQuietBy k.exchange k.unread
-        → GivesReading {S = S} {H = H} (from_state settings s items) c false (at_desk items (record { alloc = d.alloc; name = d.name; numbers = d.numbers; clients = clients; exchanges = d.exchanges; links = d.links; store = d.store }))
+        → GivesReading {S = S} {H = H} (from_state settings s items) c false (at_desk items (record { alloc = d.alloc; incidents = d.incidents; name = d.name; numbers = d.numbers; clients = clients; exchanges = d.exchanges; links = d.links; store = d.store }))
     reads_nothing clients items are quiet = record {
       state = s;
       stands = record {
@@ -137,14 +137,14 @@ module _ (S H : Type 0) (settings : CoreSettings) (c : ℕ) where
 
     -- what came is no whole request yet
     pub reads_unfinished : (clients : BTreeMap ℕ Client) (items : List Action) → AreClients clients (insert (remove s.connections c) c k) → k.exchange ≡ None → IsUnfinished k.unread
-        → GivesReading {S = S} {H = H} (from_state settings s items) c false (at_desk items (record { alloc = d.alloc; name = d.name; numbers = d.numbers; clients = clients; exchanges = d.exchanges; links = d.links; store = d.store }))
+        → GivesReading {S = S} {H = H} (from_state settings s items) c false (at_desk items (record { alloc = d.alloc; incidents = d.incidents; name = d.name; numbers = d.numbers; clients = clients; exchanges = d.exchanges; links = d.links; store = d.store }))
     reads_unfinished clients items are idle unfinished =
         reads_nothing clients items are (subst (λ (e : Option ℕ). IsQuietBy e k.unread) (sym idle) unfinished)
 
     -- unread octets are dropped
     pub reads_dropping : (clients : BTreeMap ℕ Client) (items : List Action) (exchange : ℕ) → AreClients clients (insert (remove s.connections c) c (after_leaving k))
         → k.exchange ≡ Some exchange → most_unread < length k.unread
-        → GivesReading {S = S} {H = H} (from_state settings s items) c false (at_desk items (record { alloc = d.alloc; name = d.name; numbers = d.numbers; clients = clients; exchanges = d.exchanges; links = d.links; store = d.store }))
+        → GivesReading {S = S} {H = H} (from_state settings s items) c false (at_desk items (record { alloc = d.alloc; incidents = d.incidents; name = d.name; numbers = d.numbers; clients = clients; exchanges = d.exchanges; links = d.links; store = d.store }))
     reads_dropping clients items exchange are awaits over =
         let left : State = record {
           numbers = s.numbers;
@@ -212,7 +212,7 @@ module _ (S H : Type 0) (settings : CoreSettings) (c : ℕ) where
   -- no such connection is open
   pub reads_absent : (d : Desk S H) (s : State) (clients : BTreeMap ℕ Client) (items : List Action) → DeskStandsFor {S = S} {H = H} settings d s → get s.connections c ≡ None
       → AreClients clients (remove s.connections c)
-      → GivesReading {S = S} {H = H} (from_state settings s items) c false (at_desk items (record { alloc = d.alloc; name = d.name; numbers = d.numbers; clients = clients; exchanges = d.exchanges; links = d.links; store = d.store }))
+      → GivesReading {S = S} {H = H} (from_state settings s items) c false (at_desk items (record { alloc = d.alloc; incidents = d.incidents; name = d.name; numbers = d.numbers; clients = clients; exchanges = d.exchanges; links = d.links; store = d.store }))
   reads_absent d s clients items stands none are = record {
     state = s;
     stands = record {
@@ -235,7 +235,7 @@ module _ (S H : Type 0) (settings : CoreSettings) (c : ℕ) where
 
   -- a client that is taken out leaves what the state without it has
   pub taken_out : (d : Desk S H) (s : State) (clients : BTreeMap ℕ Client) → DeskStandsFor {S = S} {H = H} settings d s → AreClients clients (remove s.connections c)
-      → DeskStandsFor {S = S} {H = H} settings (record { alloc = d.alloc; name = d.name; numbers = d.numbers; clients = clients; exchanges = d.exchanges; links = d.links; store = d.store })
+      → DeskStandsFor {S = S} {H = H} settings (record { alloc = d.alloc; incidents = d.incidents; name = d.name; numbers = d.numbers; clients = clients; exchanges = d.exchanges; links = d.links; store = d.store })
       (without_connection c s)
   taken_out d s clients stands are = record {
     name = stands.name;
@@ -251,7 +251,7 @@ module _ (S H : Type 0) (settings : CoreSettings) (c : ℕ) where
   pub taken_with : (d : Desk S H) (s : State) (client : Client) (clients : BTreeMap ℕ Client) → DeskStandsFor {S = S} {H = H} settings d s
       → Updates nat_cmp d.clients clients c None → Some client ≡ kept_at nat_cmp d.clients c → btree_map_len clients + 1 ≡ btree_map_len d.clients
       → (k : Connection) × (get s.connections c ≡ Some k) × IsClient client k
-      × DeskStandsFor {S = S} {H = H} settings (record { alloc = d.alloc; name = d.name; numbers = d.numbers; clients = clients; exchanges = d.exchanges; links = d.links; store = d.store })
+      × DeskStandsFor {S = S} {H = H} settings (record { alloc = d.alloc; incidents = d.incidents; name = d.name; numbers = d.numbers; clients = clients; exchanges = d.exchanges; links = d.links; store = d.store })
       (without_connection c s)
   taken_with d s client clients stands updates value many =
       let seen = found IsClient (kept_at nat_cmp d.clients c) (get s.connections c) client (stands.clients.at c) (sym value) in
@@ -262,7 +262,7 @@ module _ (S H : Type 0) (settings : CoreSettings) (c : ℕ) where
       → DeskStandsFor {S = S} {H = H} settings d (without_connection c s) → get s.connections c ≡ Some k → k.exchange ≡ Some exchange
       → nat_lt most_unread (length k.unread) ≡ over → IsTrimmed over client k
       → ((q : Connection) → IsClient client q → AreClients clients (insert (remove s.connections c) c q))
-      → GivesReading {S = S} {H = H} (from_state settings s items) c false (at_desk items (record { alloc = d.alloc; name = d.name; numbers = d.numbers; clients = clients; exchanges = d.exchanges; links = d.links; store = d.store }))
+      → GivesReading {S = S} {H = H} (from_state settings s items) c false (at_desk items (record { alloc = d.alloc; incidents = d.incidents; name = d.name; numbers = d.numbers; clients = clients; exchanges = d.exchanges; links = d.links; store = d.store }))
   reads_trimmed d s k client clients items exchange true stands there awaits over is put =
       reads_dropping d s k stands there clients items exchange (put (after_leaving k) is) awaits (ltb-true most_unread (length k.unread) over)
   reads_trimmed d s k client clients items exchange false stands there awaits over is put =

@@ -69,7 +69,7 @@ module _ (S H : Type 0) (settings : CoreSettings) (d : Desk S H) (s : State) (f 
 
   -- without its link, what is kept is that of this state without the forward
   pub received_without : (links : OpenLinks) → AreLinks links (remove s.forwards f)
-      → DeskStandsFor {S = S} {H = H} settings (record { alloc = d.alloc; name = d.name; numbers = d.numbers; clients = d.clients; exchanges = d.exchanges; links = links; store = d.store })
+      → DeskStandsFor {S = S} {H = H} settings (record { alloc = d.alloc; incidents = d.incidents; name = d.name; numbers = d.numbers; clients = d.clients; exchanges = d.exchanges; links = links; store = d.store })
       (without_forward f state_received)
   received_without links are = record {
     name = stands.name;
@@ -119,7 +119,7 @@ module _ (S H : Type 0) (settings : CoreSettings) (d : Desk S H) (s : State) (f 
   -- nothing more yet
   pub receives_on : (links : OpenLinks) (items : List Action) → AreLinks links (insert (remove s.forwards f) f (after_origin_octets octets awaited))
       → IsUnfinished (is_head awaited.forward.request.method) (awaited.received ++ octets)
-      → GivesReceiving {S = S} {H = H} (from_state settings s items) f octets IsOpen (at_desk items (record { alloc = d.alloc; name = d.name; numbers = d.numbers; clients = d.clients; exchanges = d.exchanges; links = links; store = d.store }))
+      → GivesReceiving {S = S} {H = H} (from_state settings s items) f octets IsOpen (at_desk items (record { alloc = d.alloc; incidents = d.incidents; name = d.name; numbers = d.numbers; clients = d.clients; exchanges = d.exchanges; links = links; store = d.store }))
   receives_on links items are unfinished = record {
     state = state_received;
     stands = record {

@@ -47,7 +47,7 @@ use Rattle.hc_machine.proofs.WaitingLemmas.{can_still, connections_still}
 module _ (S H : Type 0) (settings : CoreSettings) (d : Desk S H) (s : State) (e : ℕ) (stands : DeskStandsFor {S = S} {H = H} settings d s) where
   -- what is kept once the exchange is taken out
   abbrev pub taken_of : BTreeMap ℕ Client → OpenExchanges → Desk S H
-  taken_of clients exchanges = record { alloc = d.alloc; name = d.name; numbers = d.numbers; clients = clients; exchanges = exchanges; links = d.links; store = d.store }
+  taken_of clients exchanges = record { alloc = d.alloc; incidents = d.incidents; name = d.name; numbers = d.numbers; clients = clients; exchanges = exchanges; links = d.links; store = d.store }
 
   -- it isn't there, or its connection isn't
   pub releases_missing : (clients : BTreeMap ℕ Client) (exchanges : OpenExchanges) (items : List Action) (olds : List ℕ) → IsMissing e s.exchanges s.connections exchanges clients
@@ -73,8 +73,8 @@ module _ (S H : Type 0) (settings : CoreSettings) (d : Desk S H) (s : State) (e 
     moment_now : d.numbers.moment ≡ s.numbers.moment
     moment_now = ap (λ (n : Numbers). n.moment) stands.numbers
 
-    closes_now : is_last w ≡ closes_behind w.exchange.request taken.connection
-    closes_now = ap (λ (b : Bool). ends_connection w.exchange.request || b) taken.is_client.leaves
+    closes_now : is_last d.numbers w ≡ closes_behind w.exchange.request taken.connection s.numbers
+    closes_now i = ends_connection w.exchange.request || (taken.is_client.leaves i || (stands.numbers i).closing)
 
     wanted_is : wanted_of (taken_of clients exchanges) w ≡ wanted_now settings s w.exchange.request taken.connection
     wanted_is i = record { name = stands.name i; moment = moment_now i; asked = w.exchange.request; closes = closes_now i }
@@ -99,18 +99,18 @@ module _ (S H : Type 0) (settings : CoreSettings) (d : Desk S H) (s : State) (e 
 
     -- it gets its reply
     releases_reply : (chosen : Option Stored) (stored : Stored) → Some stored ≡ shared s.numbers.moment chosen → Finds w.exchange.target w.exchange.request.fields s.store chosen new.store
-        → RepliesTo {S = S} {H = H} w (is_last w) (collapsed_reply (wanted_of (taken_of clients exchanges) w) stored) (at_desk a (taken_of clients exchanges)) (at_desk z new)
+        → RepliesTo {S = S} {H = H} w (is_last d.numbers w) (collapsed_reply (wanted_of (taken_of clients exchanges) w) stored) (at_desk a (taken_of clients exchanges)) (at_desk z new)
         → GivesRelease {S = S} {H = H} (from_state settings s a) e olds news (at_desk z new)
     releases_reply chosen stored is finds gives =
         let reply = collapsed_reply (wanted_now settings s w.exchange.request taken.connection) stored in
         let left : State = record {
           numbers = noted s.numbers;
-          connections = replied (closes_behind w.exchange.request taken.connection) w.exchange.connection taken.connection.unread taken.connection s.connections;
+          connections = replied (closes_behind w.exchange.request taken.connection s.numbers) w.exchange.connection taken.connection.unread taken.connection s.connections;
           exchanges = remove s.exchanges e;
           forwards = s.forwards;
           store = new.store;
         } in
-        let replies : List Action = reply_actions e s.numbers.moment (is_head w.exchange.request.method) w.exchange.connection (closes_behind w.exchange.request taken.connection) reply in
+        let replies : List Action = reply_actions e s.numbers.moment (is_head w.exchange.request.method) w.exchange.connection (closes_behind w.exchange.request taken.connection s.numbers) reply in
         record {
           state = left;
           stands = record {
@@ -193,9 +193,9 @@ module _ (S H : Type 0) (settings : CoreSettings) (d : Desk S H) (s : State) (e 
 
 -- ---- what the code does for one that was taken out
 
-module _ (S H : Type 0) (w : HeldExchange) (before after : List Action) (d new : Desk S H) (store : Holdings) (closes : Bool) (closes_is : closes ≡ is_last w) where
+module _ (S H : Type 0) (w : HeldExchange) (before after : List Action) (d new : Desk S H) (store : Holdings) (closes : Bool) (closes_is : closes ≡ is_last d.numbers w) where
   abbrev pub asked_with : Desk S H
-  asked_with = record { alloc = d.alloc; name = d.name; numbers = d.numbers; clients = d.clients; exchanges = d.exchanges; links = d.links; store = store }
+  asked_with = record { alloc = d.alloc; incidents = d.incidents; name = d.name; numbers = d.numbers; clients = d.clients; exchanges = d.exchanges; links = d.links; store = store }
 
   abbrev pub wanted_with : Wanted
   wanted_with = record { name = d.name; moment = d.numbers.moment; asked = w.exchange.request; closes = closes }

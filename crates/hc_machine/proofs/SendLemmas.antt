@@ -44,15 +44,15 @@ when_ok (Ok x) P holds = holds refl
 when_ok (Err e) P holds = tt
 
 -- the reply that was wanted, as it closes the connection where it is the last
-pub wanted_with : (S H : Type 0) (d : Desk S H) (w : HeldExchange) (IsSo : Wanted → Type 0) (closes : Bool) → closes ≡ is_last w
+pub wanted_with : (S H : Type 0) (d : Desk S H) (w : HeldExchange) (IsSo : Wanted → Type 0) (closes : Bool) → closes ≡ is_last d.numbers w
     → IsSo (record { name = d.name; moment = d.numbers.moment; asked = w.exchange.request; closes = closes }) → IsSo (wanted_of {S = S} {H = H} d w)
 wanted_with S H d w IsSo closes same is =
     subst (λ (b : Bool). IsSo (record { name = d.name; moment = d.numbers.moment; asked = w.exchange.request; closes = b })) same is
 
 -- the reply is the one that was decided, and goes out behind which the connection closes where it is the last
 pub gives_reply : (S H : Type 0) (w : HeldExchange) (decides : Message ResponseHead → Holdings → Holdings → Type 0) (before after : List Action) (d new : Desk S H) (store : Holdings)
-    (closes : Bool) (reply : Message ResponseHead) → closes ≡ is_last w → decides reply d.store store
-    → SendsReply {S = S} {H = H} w closes reply (at_desk before (record { alloc = d.alloc; name = d.name; numbers = d.numbers; clients = d.clients; exchanges = d.exchanges; links = d.links; store = store })) (at_desk after new)
+    (closes : Bool) (reply : Message ResponseHead) → closes ≡ is_last d.numbers w → decides reply d.store store
+    → SendsReply {S = S} {H = H} w closes reply (at_desk before (record { alloc = d.alloc; incidents = d.incidents; name = d.name; numbers = d.numbers; clients = d.clients; exchanges = d.exchanges; links = d.links; store = store })) (at_desk after new)
     → GivesReply {S = S} {H = H} w decides (at_desk before d) (at_desk after new)
 gives_reply S H w decides before after d new store closes reply closes_is decided sends = record {
   reply = reply;
@@ -74,7 +74,7 @@ pub sends_reply : (S H : Type 0) (w : HeldExchange) (to : Addressee) (closes : B
     → ((connections : Table Connection) (k : Connection) → AreClients d.clients connections → IsIdle w.client k
     → AreClients clients (cond to.closes connections (insert connections to.connection k)))
     → after ≡ before ++ reply_actions to.exchange d.numbers.moment to.to_head to.connection to.closes reply
-    → SendsReply {S = S} {H = H} w closes reply (at_desk before d) (at_desk after (record { alloc = d.alloc; name = d.name; numbers = numbers; clients = clients; exchanges = d.exchanges; links = d.links; store = d.store }))
+    → SendsReply {S = S} {H = H} w closes reply (at_desk before d) (at_desk after (record { alloc = d.alloc; incidents = d.incidents; name = d.name; numbers = numbers; clients = clients; exchanges = d.exchanges; links = d.links; store = d.store }))
 sends_reply S H w to closes reply before after d numbers clients to_is numbers_are clients_are actions_are = record {
   replies = record {
     numbers = numbers_are;
@@ -91,7 +91,7 @@ sends_reply S H w to closes reply before after d numbers clients to_is numbers_a
 -- the request goes to the origin anew, as was decided
 pub gives_anew : (S H : Type 0) (w : HeldExchange) (why : Cause) (decides : Holdings → Holdings → Type 0) (before after : List Action) (d new : Desk S H) (store : Holdings)
     → decides d.store store
-    → SendsAnew {S = S} {H = H} w why (at_desk before (record { alloc = d.alloc; name = d.name; numbers = d.numbers; clients = d.clients; exchanges = d.exchanges; links = d.links; store = store })) (at_desk after new)
+    → SendsAnew {S = S} {H = H} w why (at_desk before (record { alloc = d.alloc; incidents = d.incidents; name = d.name; numbers = d.numbers; clients = d.clients; exchanges = d.exchanges; links = d.links; store = store })) (at_desk after new)
     → GivesForwardAnew {S = S} {H = H} w why decides (at_desk before d) (at_desk after new)
 gives_anew S H w why decides before after d new store decided sends = record {
   decided = subst (λ (h : Holdings). decides d.store h) (sym sends.store) decided;

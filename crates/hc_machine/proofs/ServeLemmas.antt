@@ -4,16 +4,18 @@ use Rattle.std.proofs.lemmas.Bool.{cases_eq, leb-false}
 use Rattle.std.specs.List.{AllByRecursion}
 use Rattle.std.specs.FinMap.{get}
 use Rattle.std.specs.Option.{is_some}
-use Rattle.hc_events.specs.declared.Happening.TheVariants.{ClientOpened, ClientBytes, ClientEnd, OriginBytes, OriginEnd, OriginFailed}
+use Rattle.hc_events.specs.declared.Happening.TheVariants.{ClientOpened, ClientBytes, ClientEnd, OriginBytes, OriginEnd, OriginFailed, Stopping as ToStop}
 use Rattle.hc_service.specs.declared.action.Action.{Action}
+use Rattle.hc_service.specs.declared.numbers.Numbers.{Numbers}
 use Rattle.hc_service.specs.declared.settings.CoreSettings.{CoreSettings}
 use Rattle.hc_service.specs.Agreement.{IsReady}
 use Rattle.hc_service.specs.declared.open.Purpose.{Purpose}
 use Rattle.hc_service.specs.declared.open.Purpose.TheVariants as purpose
 use Rattle.hc_service.specs.Joining.{waiting_for}
+use Rattle.hc_service.specs.Numbers.{stopping}
 use Rattle.hc_service.specs.Serves.{IsQuietAt, Reads, ReadsOn, ReadsOnAll, Run, Takes, Turn, clients_of, connections_of, listed}
 use Rattle.hc_service.proofs.QuietLemmas.{readings_keep}
-use Rattle.hc_service.specs.Serves.Turn.{Opening, ClientSending, Answering, Failing, OriginSending, Releasing}
+use Rattle.hc_service.specs.Serves.Turn.{Opening, ClientSending, Answering, Failing, OriginSending, Releasing, Stopping}
 use Rattle.hc_service.specs.State.{State, Connection, Awaited, exchange_for}
 use Rattle.hc_service.specs.Turns.Failure.{IsBroken, IsCutOff, IsLost}
 use Rattle.hc_machine.specs.declared.desk.Desk.{Desk}
@@ -116,6 +118,44 @@ can_behind_end_of_origin S H settings s f client a z d (inr gives) = record { se
 
 -- no actions are there before the first turn
 module _ (S H : Type 0) (settings : CoreSettings) (s : State) (start : List Action) (none : start ≡ []) where
+  -- ---- the cache as a whole
+
+  pub does_stopping : (d : Desk S H) (numbers : Numbers) → DeskStandsFor {S = S} {H = H} settings d s → numbers ≡ stopping d.numbers
+      → GivesDoing {S = S} {H = H} settings ToStop s start
+      (record { alloc = d.alloc; incidents = d.incidents; name = d.name; numbers = numbers; clients = d.clients; exchanges = d.exchanges; links = d.links; store = d.store })
+  does_stopping d numbers stands is =
+      let left : State = record {
+        numbers = stopping s.numbers;
+        connections = s.connections;
+        exchanges = s.exchanges;
+        forwards = s.forwards;
+        store = s.store;
+      } in
+      record {
+        state = left;
+        stands = record {
+          name = stands.name;
+          numbers = is ∙ ap stopping stands.numbers;
+          clients = stands.clients;
+          exchanges = stands.exchanges;
+          links = stands.links;
+          store = stands.store;
+          in_time = stands.in_time;
+        };
+        does = λ ready. record {
+          turns = Stopping ∷ [];
+          owes = refl;
+          run = (
+            left,
+            [],
+            [],
+            record { numbers = refl; keeps = record { connections = refl; exchanges = refl; forwards = refl; store = refl }; actions_are = refl },
+            none,
+            (refl, refl),
+          );
+        };
+      }
+
   -- ---- clients
 
   pub does_opening : (c : ℕ) (d : Desk S H) → GivesTurn {S = S} {H = H} (from_state settings s []) (Opening c) (at_desk [] d) → GivesDoing {S = S} {H = H} settings (ClientOpened c) s start d

@@ -8,6 +8,7 @@ use Rattle.hc_head.specs.Methods.{is_head}
 use Rattle.hc_framing.specs.declared.message.Message.{Message}
 use Rattle.hc_store.specs.Entries.{Holdings}
 use Rattle.hc_service.specs.declared.cases.Cause.{Cause}
+use Rattle.hc_service.specs.declared.numbers.Numbers.{Numbers}
 use Rattle.hc_service.specs.declared.open.ForwardKind.TheVariants.{Plain}
 use Rattle.hc_service.specs.declared.open.OpenExchange.{OpenExchange}
 use Rattle.hc_service.specs.declared.open.Purpose.{Purpose}
@@ -55,8 +56,8 @@ TakesExchange number None table connections exchanges clients = IsMissing number
 -- ---- its reply
 
 -- its connection closes behind the reply
-abbrev pub is_last : HeldExchange → Bool
-is_last held = ends_connection held.exchange.request || held.client.leaves
+abbrev pub is_last : Numbers → HeldExchange → Bool
+is_last n held = ends_connection held.exchange.request || (held.client.leaves || n.closing)
 
 -- to whom its reply goes
 abbrev pub addressee_of : HeldExchange → Bool → Addressee
@@ -65,13 +66,13 @@ addressee_of held closes =
 
 -- the reply that it wants of a cache
 abbrev pub wanted_of : {S H : Type 0} → Desk S H → HeldExchange → Wanted
-wanted_of desk held = record { name = desk.name; moment = desk.numbers.moment; asked = held.exchange.request; closes = is_last held }
+wanted_of desk held = record { name = desk.name; moment = desk.numbers.moment; asked = held.exchange.request; closes = is_last desk.numbers held }
 
 -- it gets a reply, which is decided by what is stored
 pub record GivesReply {S H : Type 0} (held : HeldExchange) (decides : Message ResponseHead → Holdings → Holdings → Type 0) (old new : Reached S H) : Type 0 where
   pub reply : Message ResponseHead
   pub decided : decides reply old.desk.store new.desk.store
-  pub replies : RepliesTo held (is_last held) reply old new
+  pub replies : RepliesTo held (is_last old.desk.numbers held) reply old new
 
 -- ---- its forward anew
 

@@ -38,7 +38,7 @@ pub record SendsAlone {S H : Type 0} (held : HeldExchange) (old new : Reached S 
 
 -- it gets its reply of a stored response that is shared, or a forward of its own
 abbrev pub ReleasesHeld : {S H : Type 0} → Option Stored → HeldExchange → Reached S H → Reached S H → Type 0
-ReleasesHeld (Some stored) held old new = RepliesTo held (is_last held) (collapsed_reply (wanted_of old.desk held) stored) old new
+ReleasesHeld (Some stored) held old new = RepliesTo held (is_last old.desk.numbers held) (collapsed_reply (wanted_of old.desk held) stored) old new
 ReleasesHeld None held old new = AsksAlone held old new
 
 -- the store is asked

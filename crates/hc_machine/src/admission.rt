@@ -28,7 +28,7 @@ impl<S: BuildHasher> Desk<S> {
     ghost use Rattle.hc_machine.specs.Standing.{DeskStandsFor};
     ghost use Rattle.hc_machine.specs.Steps.{IsOfTest};
 
-    /// Whether what the event is about is open, or has a number that may be opened.
+    /// Whether what the event is about is open, or has a number that may be opened; or it is about the cache as a whole.
     fn is_known(&self, of: &Happening) -> bool
         ensures { (settings : CoreSettings) (s : State) → DeskStandsFor settings self.now s → result ≡ is_known of.now s }
     {
@@ -39,6 +39,7 @@ impl<S: BuildHasher> Desk<S> {
             Happening::OriginBytes(f, _) => self.links.by_number.contains_key(f),
             Happening::OriginEnd(f) => self.links.by_number.contains_key(f),
             Happening::OriginFailed(f) => self.links.by_number.contains_key(f),
+            Happening::Stopping => true,
         }
     }
 
@@ -53,6 +54,7 @@ impl<S: BuildHasher> Desk<S> {
             Happening::OriginBytes(_, _) => false,
             Happening::OriginEnd(_) => false,
             Happening::OriginFailed(_) => false,
+            Happening::Stopping => false,
         }
     }
 

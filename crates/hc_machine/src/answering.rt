@@ -106,7 +106,11 @@ impl<S: BuildHasher> Desk<S> {
             self.old.numbers.records old outcome new)
             (at_desk actions.old.items self.old) (at_desk actions.new.items self.new)) }
     {
-        let closes = closes_behind(&held.exchange.request, held.client.leaves);
+        let closes = closes_behind(
+            &held.exchange.request,
+            held.client.leaves,
+            self.numbers.closing,
+        );
         let wanted = WantedReply {
             name: &self.name,
             moment: self.numbers.moment,
@@ -191,7 +195,11 @@ impl<S: BuildHasher> Desk<S> {
             (λ reply old new. Fails (wanted_of self.old held) forward.now.target cause old (Replies reply) new)
             (at_desk actions.old.items self.old) (at_desk actions.new.items self.new)) }
     {
-        let closes = closes_behind(&held.exchange.request, held.client.leaves);
+        let closes = closes_behind(
+            &held.exchange.request,
+            held.client.leaves,
+            self.numbers.closing,
+        );
         let wanted = WantedReply {
             name: &self.name,
             moment: self.numbers.moment,

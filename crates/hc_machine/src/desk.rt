@@ -2,6 +2,7 @@
 
 ghost use Rattle.std.specs.Prelude.{◌≡◌};
 
+use crate::incidents::Incidents;
 use hc_fields::Octets;
 use hc_open::{Client, OpenExchanges, OpenLinks};
 use hc_service::Numbers;
@@ -21,6 +22,8 @@ pub(crate) struct Desk<S: BuildHasher> {
     pub(crate) exchanges: OpenExchanges,
     pub(crate) links: OpenLinks,
     pub(crate) store: Store<S>,
+    /// What went wrong in the last step that was served. No clause says which step, or that nothing is left out.
+    pub(crate) incidents: Incidents,
 }
 
 impl<S: BuildHasher> Desk<S> {
@@ -45,6 +48,7 @@ impl<S: BuildHasher> Desk<S> {
             exchanges: OpenExchanges::new(alloc),
             links: OpenLinks::new(alloc),
             store,
+            incidents: Incidents::new(alloc),
         }
     }
 

@@ -1,8 +1,8 @@
 //! The end of what a client sends.
 
 use crate::desk::Desk;
+use crate::incidents::refuse_client;
 use hc_open::Client;
-use hc_reactions::refuse;
 use hc_service::Action;
 use std::alloc::AllocError;
 use std::hash::BuildHasher;
@@ -76,7 +76,14 @@ impl<S: BuildHasher> Desk<S> {
             → OnOk result (GivesEnd (from_state settings s actions.old.items) c k (at_desk actions.new.items self.new)) }
     {
         match client.reader.end()? {
-            Some(status) => refuse(self.alloc, self.numbers.moment, c, status, actions),
+            Some(trouble) => refuse_client(
+                self.alloc,
+                &mut self.incidents,
+                self.numbers.moment,
+                c,
+                trouble,
+                actions,
+            ),
             None => {
                 actions.push(Action::CloseClient(c))?;
                 Ok(())

@@ -3,9 +3,11 @@
 
 mod admission;
 mod answering;
+mod awaiting;
 mod clients;
 mod desk;
 mod ending;
+mod incidents;
 mod keeping;
 mod leaving;
 mod machine;

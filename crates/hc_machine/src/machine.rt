@@ -4,13 +4,14 @@ ghost use Rattle.std.specs.Prelude.{◌≡◌};
 
 use crate::desk::Desk;
 use crate::keeping::steps_keep_agreement;
-use hc_events::Event;
+use hc_events::{Event, Incident};
+use hc_head::Target;
 use hc_service::{
     Action, CoreFault, CoreOptions, CoreSettings, StepFault, is_name, is_room, is_size,
 };
 use hc_store::Store;
 use lru::DefaultHasher;
-use std::alloc::Global;
+use std::alloc::{AllocError, Global};
 use std::hash::{BuildHasher, BuildHasherDefault};
 use std::marker::Model;
 
@@ -92,15 +93,17 @@ impl<S: BuildHasher + Drop> Core<S> {
 }
 
 impl<S: BuildHasher> Core<S> {
-    ghost use Rattle.std.specs.Prelude.{◌≢◌, ◌&&◌, ◌==◌, ℕ, true, false, IsErrOf, OnErr};
+    ghost use Rattle.std.specs.Prelude.{◌≢◌, ◌&&◌, ◌==◌, ℕ, [], true, false, None, IfOk, IsErrOf, OnErr};
     ghost use Rattle.std.specs.FinMap.{len};
+    ghost use Rattle.std.specs.Option.{option_copied};
     ghost use Rattle.hc_service.specs.declared.fault.StepFault.TheVariants.{Failed, Memory};
     ghost use Rattle.hc_service.specs.declared.fault.StepFault.{StepFault};
     ghost use Rattle.hc_service.specs.declared.settings.CoreSettings.{CoreSettings};
     ghost use Rattle.hc_service.specs.Agreement.{Agrees, History, IsReady};
     ghost use Rattle.hc_service.specs.Settings.{AreGood};
+    ghost use Rattle.hc_service.specs.Serves.{clients_of};
     ghost use Rattle.hc_service.specs.State.{State, awaits_reply};
-    ghost use Rattle.hc_machine.specs.Held.{held_of_client, held_of_forward, is_background};
+    ghost use Rattle.hc_machine.specs.Held.{held_of_client, held_of_forward, is_background, is_needed, target_at};
     ghost use Rattle.hc_machine.specs.Steps.{GivesAgreement, GivesStep, StandsFor, TellsFirst, records_given};
 
     /// Something happens. Where memory is refused, no event is served any more; any other fault changes
@@ -191,6 +194,55 @@ impl<S: BuildHasher> Core<S> {
         ensures failed { self.now.failed ≡ true → result ≡ false }
     {
         !self.failed && self.desk.is_background(forward)
+    }
+
+    /// Whether it hasn't failed, and that forward is open and goes on even where nobody awaits what comes on it: it is open
+    /// for the store alone, or its request may change something at the origin, so that its response invalidates what is
+    /// stored of that.
+    pub fn is_needed(&self, forward: u64) -> bool
+        ensures state { (settings : CoreSettings) (s : State) → StandsFor settings self.now s
+            → result ≡ is_needed forward s }
+        ensures failed { self.now.failed ≡ true → result ≡ false }
+    {
+        !self.failed && self.desk.is_needed(forward)
+    }
+
+    /// The connections of the exchanges that the end of that forward answers: first that for which it was sent, then those
+    /// that wait for it, by rising number of their exchanges. None where the forward isn't open, or the cache has failed.
+    pub fn clients_of(&self, forward: u64) -> Result<Vec<u64>, AllocError>
+        ensures state { (settings : CoreSettings) (s : State) → StandsFor settings self.now s
+            → IfOk result (λ clients. clients.items ≡ clients_of forward s) }
+        ensures failed { self.now.failed ≡ true → IfOk result (λ clients. clients.items ≡ []) }
+    {
+        if self.failed {
+            return Ok(Vec::new(self.desk.alloc));
+        }
+        self.desk.clients_of(forward)
+    }
+
+    /// What that forward asks for: nothing where it isn't open, or the cache has failed.
+    pub fn target_of(&self, forward: u64) -> Option<&Target>
+        ensures state { (settings : CoreSettings) (s : State) → StandsFor settings self.now s
+            → option_copied result ≡ target_at forward s }
+        ensures failed { self.now.failed ≡ true → option_copied result ≡ None }
+    {
+        if self.failed {
+            return None;
+        }
+        self.desk.target_of(forward)
+    }
+
+    /// What was refused in the last step that was served, and which forwards failed there by what came on them, in the
+    /// order in which that happened; nothing where the cache has failed.
+    ///
+    /// No clause says more: neither that nothing is left out, nor that it is of that step.
+    pub fn incidents(&self) -> &[Incident]
+        ensures failed { self.now.failed ≡ true → result.now ≡ [] }
+    {
+        if self.failed {
+            return &[];
+        }
+        self.desk.incidents.as_slice()
     }
 
     /// How many octets have come from the client of that connection behind the last request that was read, and weren't

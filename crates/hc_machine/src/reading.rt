@@ -4,21 +4,23 @@ ghost use Rattle.std.specs.Prelude.{◌≡◌, ◌||◌};
 ghost use Rattle.hc_service.specs.Asking.{ends_connection};
 
 use crate::desk::Desk;
+use crate::incidents::refuse_client;
 use crate::moving::{await_reply, reply_on, send_forward};
 use hc_framing::Message;
 use hc_head::{RequestHead, ResponseHead, Target, is_head};
 use hc_links::Arrival;
 use hc_open::Client;
-use hc_reactions::{Addressee, Reaction, Underway, react, record_request, refuse};
+use hc_reactions::{Addressee, Reaction, Underway, react, record_request};
 use hc_service::{Action, OpenExchange, Purpose, WantedReply, ends_connection};
 use std::alloc::AllocError;
 use std::hash::BuildHasher;
 
-/// Whether a connection closes behind the reply, of which nothing more may be read.
-pub(crate) fn closes_behind(asked: &RequestHead, leaves: bool) -> bool
-    ensures { result ≡ (ends_connection asked.now || leaves) }
+/// Whether a connection closes behind the reply, of which nothing more may be read, of a cache whose replies all
+/// close theirs, or don't.
+pub(crate) fn closes_behind(asked: &RequestHead, leaves: bool, closing: bool) -> bool
+    ensures { result ≡ (ends_connection asked.now || (leaves || closing)) }
 {
-    ends_connection(asked) || leaves
+    ends_connection(asked) || leaves || closing
 }
 
 impl<S: BuildHasher> Desk<S> {
@@ -102,8 +104,15 @@ impl<S: BuildHasher> Desk<S> {
                 self.clients.insert(c, client)?;
                 Ok(false)
             }
-            Arrival::Refused(status) => {
-                refuse(self.alloc, self.numbers.moment, c, status, actions)?;
+            Arrival::Refused(trouble) => {
+                refuse_client(
+                    self.alloc,
+                    &mut self.incidents,
+                    self.numbers.moment,
+                    c,
+                    trouble,
+                    actions,
+                )?;
                 Ok(false)
             }
             Arrival::Request(request, target) => {
@@ -130,7 +139,7 @@ impl<S: BuildHasher> Desk<S> {
         ensures unread { kept_at nat_cmp self.old.clients c ≡ None
             → OnOk result (unread_at c self.new.clients ≤ length (unread client.reader)) }
     {
-        let closes = closes_behind(&request.head, client.leaves);
+        let closes = closes_behind(&request.head, client.leaves, self.numbers.closing);
         let number = record_request(self.alloc, &mut self.numbers, &request, actions)?;
         let wanted = WantedReply {
             name: &self.name,

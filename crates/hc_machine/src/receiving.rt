@@ -3,7 +3,7 @@
 ghost use Rattle.std.specs.Prelude.{◌≡◌, ◌⊎◌};
 
 use crate::desk::Desk;
-use hc_links::Heard;
+use hc_links::{Ended, Heard};
 use hc_open::Link;
 use hc_service::Action;
 use std::alloc::AllocError;
@@ -60,7 +60,9 @@ impl<S: BuildHasher> Desk<S> {
                 let client = self.answer(f, forward, response, actions)?;
                 Ok(Progress::HasEnded { client })
             }
-            Heard::Failed => {
+            Heard::Failed(trouble) => {
+                self.incidents
+                    .note_failure(self.alloc, f, &forward.target, trouble)?;
                 self.links.forget(f, &forward);
                 let client = self.break_off(f, forward, true, actions)?;
                 Ok(Progress::HasEnded { client })
@@ -91,8 +93,12 @@ impl<S: BuildHasher> Desk<S> {
         } = link;
         let ended = reader.end()?;
         match ended {
-            Some(response) => self.answer(f, forward, response, actions),
-            None => self.break_off(f, forward, true, actions),
+            Ended::Response(response) => self.answer(f, forward, response, actions),
+            Ended::Failed(trouble) => {
+                self.incidents
+                    .note_failure(self.alloc, f, &forward.target, trouble)?;
+                self.break_off(f, forward, true, actions)
+            }
         }
     }
 

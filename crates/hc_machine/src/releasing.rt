@@ -12,7 +12,7 @@ use std::alloc::{AllocError, Global};
 use std::hash::BuildHasher;
 
 /// A list of one, or of none.
-fn listed(alloc: Global, number: Option<u64>) -> Result<Vec<u64>, AllocError>
+pub(crate) fn listed(alloc: Global, number: Option<u64>) -> Result<Vec<u64>, AllocError>
     ensures { IfOk result (λ numbers. numbers.items ≡ listed number) }
 {
     let mut numbers = Vec::new(alloc);
@@ -96,7 +96,11 @@ impl<S: BuildHasher> Desk<S> {
     ) -> Result<(), AllocError>
         ensures { OnOk result (GivesReleased held (at_desk actions.old.items self.old) (at_desk actions.new.items self.new)) }
     {
-        let closes = closes_behind(&held.exchange.request, held.client.leaves);
+        let closes = closes_behind(
+            &held.exchange.request,
+            held.client.leaves,
+            self.numbers.closing,
+        );
         let wanted = WantedReply {
             name: &self.name,
             moment: self.numbers.moment,

@@ -10,7 +10,7 @@ use std::hash::BuildHasher;
 impl<S: BuildHasher> Desk<S> {
     ghost use Rattle.std.specs.Prelude.{◌≡◌, ◌<◌, IfOk, None};
     ghost use Rattle.hc_fields.specs.Numbers.{end_of_moments};
-    ghost use Rattle.hc_events.specs.declared.Happening.TheVariants.{ClientOpened, ClientBytes, ClientEnd, OriginBytes, OriginEnd, OriginFailed};
+    ghost use Rattle.hc_events.specs.declared.Happening.TheVariants.{ClientOpened, ClientBytes, ClientEnd, OriginBytes, OriginEnd, OriginFailed, Stopping};
     ghost use Rattle.hc_service.specs.declared.settings.CoreSettings.{CoreSettings};
     ghost use Rattle.hc_service.specs.State.{State};
     ghost use Rattle.hc_service.specs.Serves.{first_fault};
@@ -24,6 +24,7 @@ impl<S: BuildHasher> Desk<S> {
         ensures { (settings : CoreSettings) (s : State) → DeskStandsFor settings self.old s → first_fault event s ≡ None
             → IfOk result (λ actions. GivesService settings event s actions.items self.new) }
     {
+        self.incidents.clear();
         self.numbers.pass_to(event.moment);
         self.take(event.of)
     }
@@ -40,6 +41,7 @@ impl<S: BuildHasher> Desk<S> {
             Happening::OriginBytes(f, octets) => self.origin_sent(f, octets.as_slice()),
             Happening::OriginEnd(f) => self.origin_ended(f),
             Happening::OriginFailed(f) => self.origin_lost(f),
+            Happening::Stopping => self.stop(),
         }
     }
 
@@ -107,5 +109,13 @@ impl<S: BuildHasher> Desk<S> {
         let client = self.lose(f, &mut actions)?;
         self.finish(f, client, &mut actions)?;
         Ok(actions)
+    }
+
+    /// Whoever serves the cache stops: from now on each reply closes its connection behind it.
+    fn stop(&mut self) -> Result<Vec<Action>, AllocError>
+        ensures { TakesOn Stopping self.old result self.new }
+    {
+        self.numbers.stop();
+        Ok(Vec::new(self.alloc))
     }
 }

@@ -4,5 +4,5 @@
 mod notice;
 mod voice;
 
-pub use notice::{Greeting, Notice};
+pub use notice::{Greeting, Notice, Wrongs};
 pub use voice::Voice;

@@ -1,7 +1,7 @@
 //! What a proxy says on standard error.
 
 ghost use Rattle.std.specs.Prelude.{◌≡◌, IfOk, string_bytes};
-ghost use Rattle.hc_notices.specs.Notices.{forwards_line, forwards_word, heavy_line, links_word, notice_line, times_word, unpolled_line};
+ghost use Rattle.hc_notices.specs.Notices.{forwards_line, forwards_word, heavy_line, links_word, notice_line, times_word, unpolled_line, wrongs_line};
 
 use std::alloc::{AllocError, Global};
 
@@ -16,6 +16,17 @@ pub struct Greeting<'a> {
     pub keys: usize,
     /// How many octets of them are kept at most.
     pub bytes: u64,
+}
+
+/// What was wrong, how often, and where it was last.
+#[derive(Clone, Copy)]
+pub struct Wrongs<'a> {
+    /// What was wrong.
+    pub what: &'a str,
+    /// How often.
+    pub count: u64,
+    /// Where it was last: a connection, or what was asked for.
+    pub last: &'a str,
 }
 
 /// What a proxy says on standard error.
@@ -37,6 +48,12 @@ pub enum Notice<'a> {
     Unfinished(u64),
     /// For so many no place came free in time.
     Unplaced(u64),
+    /// For so many nobody waited any more.
+    Abandoned(u64),
+    /// Requests of clients were refused.
+    Refused(Wrongs<'a>),
+    /// Responses of the origin failed.
+    Failed(Wrongs<'a>),
     /// So many links were cut off, since so much was held.
     Heavy(u64),
     /// So often the system couldn't say what is ready.
@@ -75,6 +92,11 @@ impl<'a> Notice<'a> {
             Notice::Unplaced(count) => {
                 forwards_line(alloc, "no place at the origin came free in time", count)
             }
+            Notice::Abandoned(count) => {
+                forwards_line(alloc, "no client waited for the response any more", count)
+            }
+            Notice::Refused(wrongs) => wrongs_line(alloc, "requests were refused", wrongs),
+            Notice::Failed(wrongs) => wrongs_line(alloc, "responses failed", wrongs),
             Notice::Heavy(count) => heavy_line(alloc, count),
             Notice::Unpolled(count) => unpolled_line(alloc, count),
             Notice::Behind => format!(in alloc;
@@ -111,6 +133,15 @@ fn forwards_line(alloc: Global, what: &str, count: u64) -> Result<String, AllocE
 {
     let forwards = forwards_word(count);
     format!(in alloc; "hcache: {what}: {count} {forwards}\n")
+}
+
+/// The line that says what befell requests or responses, why, how often, and where it did last.
+fn wrongs_line(alloc: Global, befell: &str, wrongs: Wrongs<'_>) -> Result<String, AllocError>
+    ensures { IfOk result (λ line. string_bytes line ≡ wrongs_line befell.now wrongs.entry) }
+{
+    let Wrongs { what, count, last } = wrongs;
+    let times = times_word(count);
+    format!(in alloc; "hcache: {befell}, since {what}: {count} {times}, the last {last}\n")
 }
 
 /// The line that says that so many links were cut off.

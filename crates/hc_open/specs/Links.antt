@@ -1,5 +1,5 @@
 -- What is open at a cache's links, and what contracts see of it.
-use Rattle.std.specs.Prelude.{◌≡◌, ℕ, Bool, true, false, ◌&&◌, nat_lt, List, length, Option, Some, None, is_some, if◌then◌else◌}
+use Rattle.std.specs.Prelude.{◌≡◌, ℕ, Bool, true, false, ◌&&◌, nat_lt, List, length, Option, Some, None, is_some, option_map, if◌then◌else◌}
 use Rattle.std.specs.declared.cmp.Ordering.{Ordering}
 use Rattle.std.specs.BTreeMap.{BTreeMap, btree_map_len, get as kept_at}
 use Rattle.std.specs.FinMap.{get, remove, values}
@@ -54,6 +54,10 @@ waits_at f x = waits_for f x.waits_for
 pub record AreExchanges (kept : OpenExchanges) (exchanges : Table OpenExchange) : Type 0 where
   pub by_number : AreAlike IsSame kept.by_number exchanges
   pub waiting : AreGrouped nat_cmp waits_at kept.waiting.sets exchanges
+
+-- the connection on which the exchange of that number came, if that is open
+abbrev pub connection_at : Table OpenExchange → ℕ → Option ℕ
+connection_at exchanges e = option_map (λ x. x.connection) (get exchanges e)
 
 -- an exchange is taken out, if it is there
 abbrev pub TakesExchange : ℕ → Option OpenExchange → Table OpenExchange → OpenExchanges → Type 0

@@ -25,14 +25,15 @@ impl Drop for OpenExchanges {
 }
 
 impl OpenExchanges {
-    ghost use Rattle.std.specs.Prelude.{◌≡◌, ℕ, ◌<◌, IfOk, OnOk, None, Some, length, nat_lt};
+    ghost use Rattle.std.specs.Prelude.{◌≡◌, ℕ, ◌<◌, ◌++◌, IfOk, OnOk, None, Some, length, nat_lt};
     ghost use Rattle.std.specs.FinMap.{empty, get, insert, remove};
     ghost use Rattle.std.specs.Ordering.{nat_cmp};
     ghost use Rattle.hc_service.specs.declared.open.OpenExchange.{OpenExchange};
     ghost use Rattle.hc_service.specs.Joining.{waiting_for};
+    ghost use Rattle.hc_service.specs.Serves.{connections_of, listed};
     ghost use Rattle.hc_service.specs.State.{Table};
     ghost use Rattle.hc_open.specs.Groups.{AreGrouped};
-    ghost use Rattle.hc_open.specs.Links.{AreExchanges, TakesExchange, has_place_at, waits_at};
+    ghost use Rattle.hc_open.specs.Links.{AreExchanges, TakesExchange, connection_at, has_place_at, waits_at};
 
     /// None is open.
     pub fn new(alloc: Global) -> Self
@@ -104,6 +105,32 @@ impl OpenExchanges {
             None => Ok(Vec::new(alloc)),
             Some(numbers) => Ok(numbers.iter().copied().collect(alloc)?),
         }
+    }
+
+    /// Adds the connection on which the exchange of that number came, if that is open.
+    fn add_connection(&self, number: u64, connections: &mut Vec<u64>) -> Result<(), AllocError>
+        ensures { (exchanges : Table OpenExchange) → AreExchanges self.now exchanges
+            → OnOk result (connections.new.items ≡ connections.old.items ++ listed (connection_at exchanges number)) }
+    {
+        match self.by_number.get(&number) {
+            None => Ok(()),
+            Some(exchange) => {
+                connections.push(exchange.connection)?;
+                Ok(())
+            }
+        }
+    }
+
+    /// The connections on which the exchanges of those numbers came, in their order, but for those that aren't open.
+    pub fn connections_of(&self, alloc: Global, numbers: &[u64]) -> Result<Vec<u64>, AllocError>
+        ensures { (exchanges : Table OpenExchange) → AreExchanges self.now exchanges
+            → IfOk result (λ connections. connections.items ≡ connections_of exchanges numbers.now) }
+    {
+        let mut connections = Vec::new(alloc);
+        for number in numbers {
+            self.add_connection(*number, &mut connections)?;
+        }
+        Ok(connections)
     }
 
     /// How many wait for that forward.

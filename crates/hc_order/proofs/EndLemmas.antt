@@ -8,7 +8,7 @@ use Rattle.hc_transcript.specs.declared.record.Record.{Record}
 use Rattle.hc_transcript.specs.Limits.{greatest_number}
 use Rattle.hc_events.specs.declared.Event.{Event}
 use Rattle.hc_events.specs.declared.Happening.{Happening}
-use Rattle.hc_events.specs.declared.Happening.TheVariants.{ClientOpened, ClientBytes, ClientEnd, OriginBytes, OriginEnd, OriginFailed}
+use Rattle.hc_events.specs.declared.Happening.TheVariants.{ClientOpened, ClientBytes, ClientEnd, OriginBytes, OriginEnd, OriginFailed, Stopping}
 use Rattle.hc_service.specs.declared.action.Action.{Action}
 use Rattle.hc_service.specs.declared.action.Action.TheVariants as action
 use Rattle.hc_service.specs.declared.fault.StepFault.TheVariants.{Memory, MomentTooLarge, UnknownNumber, TooManyConnections, Failed}
@@ -48,6 +48,7 @@ opens_or_not (ClientEnd c) = inr (λ d e. cc)
 opens_or_not (OriginBytes f octets) = inr (λ d e. cc)
 opens_or_not (OriginEnd f) = inr (λ d e. cc)
 opens_or_not (OriginFailed f) = inr (λ d e. cc)
+opens_or_not Stopping = inr (λ d e. cc)
 
 -- ---- what actions leave open
 
@@ -177,6 +178,7 @@ module _ (settings : CoreSettings) (event : Event) (s : State) (actions : List A
       by (OriginBytes f octets) is told = event_stays c (before told)
       by (OriginEnd f) is told = event_stays c (before told)
       by (OriginFailed f) is told = event_stays c (before told)
+      by Stopping is told = event_stays c (before told)
 
   -- ---- forwards that have ended
 
@@ -267,6 +269,7 @@ module _ (settings : CoreSettings) (event : Event) (s : State) (actions : List A
       by (ClientBytes c octets) is = left (ClientBytes c octets) was is before
       by (ClientEnd c) is = left (ClientEnd c) was is before
       by (OriginBytes g octets) is = left (OriginBytes g octets) was is before
+      by Stopping is = left Stopping was is before
 
 -- ---- in a new cache, and from there on
 

@@ -5,7 +5,7 @@ use Rattle.std.specs.List.{AllByRecursion}
 use Rattle.std.specs.Option.{IsSome}
 use Rattle.std.proofs.lemmas.Bool.{cases_eq}
 use Rattle.hc_events.specs.declared.Happening.{Happening}
-use Rattle.hc_events.specs.declared.Happening.TheVariants.{ClientOpened, ClientBytes, ClientEnd, OriginBytes, OriginEnd, OriginFailed}
+use Rattle.hc_events.specs.declared.Happening.TheVariants.{ClientOpened, ClientBytes, ClientEnd, OriginBytes, OriginEnd, OriginFailed, Stopping as ToStop}
 use Rattle.hc_service.specs.declared.action.Action.{Action}
 use Rattle.hc_service.specs.declared.open.OpenExchange.{OpenExchange}
 use Rattle.hc_service.specs.declared.open.Purpose.{Purpose}
@@ -13,7 +13,7 @@ use Rattle.hc_service.specs.declared.open.Purpose.TheVariants as purpose
 use Rattle.hc_service.specs.declared.settings.CoreSettings.{CoreSettings}
 use Rattle.hc_service.specs.Asking.{ends_connection}
 use Rattle.hc_service.specs.declared.numbers.Numbers.{Numbers}
-use Rattle.hc_service.specs.Numbers.{one_more, asked, sent, noted}
+use Rattle.hc_service.specs.Numbers.{one_more, asked, sent, noted, stopping}
 use Rattle.hc_service.specs.State.{State, Table, Connection, Awaited}
 use Rattle.hc_service.specs.Joining.{shared, waiting_for}
 use Rattle.hc_service.specs.Reactions.{Reaction}
@@ -23,7 +23,7 @@ use Rattle.hc_service.specs.Answers.Outcome.{Replies, GoesAnew}
 use Rattle.hc_service.specs.Turns.{Answers, Asks, Breaks, DoesOutcome, DoesReaction, DoesRelease, Ended, EndsBehind, EndsByFailure, EndsByResponse, Failure, KeepsAllButConnections, Releases, after_client_octets, after_leaving, after_origin_octets, after_reply, after_request, answered_now, arrived_on, asker_now, failed_now, replied, replied_to, wanted_now, whole_request}
 use Rattle.hc_service.specs.Turns.Failure.{IsBroken, IsCutOff, IsLost}
 use Rattle.hc_service.specs.Serves.{Turn, Takes, Run, Reads, ReadsOnAll, OwesAnswer, OwesEnd, OwesReply, Owes, clients_of}
-use Rattle.hc_service.specs.Serves.Turn.{Opening, ClientSending, Asking, Refusal, Dropping, Leaving, Closing, OriginSending, Answering, Failing, Releasing}
+use Rattle.hc_service.specs.Serves.Turn.{Opening, ClientSending, Asking, Refusal, Dropping, Leaving, Closing, OriginSending, Answering, Failing, Releasing, Stopping}
 use Rattle.hc_service.proofs.LinkLemmas.{none_some}
 use Rattle.hc_service.proofs.TableLemmas.{get_gone, get_left, get_other, was_left, was_put}
 
@@ -85,9 +85,9 @@ leave_replied ks ks' false c behind k there closed same =
     false_true : false ≡ true → ⊥
     false_true e = cc
 
-leaves_closing : (ends leaves : Bool) → leaves ≡ true → (ends || leaves) ≡ true
-leaves_closing true leaves is = refl
-leaves_closing false leaves is = is
+leaves_closing : (ends leaves closing : Bool) → leaves ≡ true → (ends || (leaves || closing)) ≡ true
+leaves_closing true leaves closing is = refl
+leaves_closing false leaves closing is = ap (λ (b : Bool). b || closing) is
 
 -- octets that come change neither
 heard_as : (octets : List ℕ) (k : Connection) → ((after_client_octets octets k).leaves ≡ k.leaves) × ((after_client_octets octets k).exchange ≡ k.exchange)
@@ -178,7 +178,7 @@ asking_passes settings c s actions s' t = by_reaction t.reaction t.does
         → LeaveOn s.connections s'.connections
     at_once same =
         leave_replied s.connections s'.connections (wanted_now settings s t.request.head t.connection).closes c (drop t.size t.connection.unread) t.connection t.is_open
-        (leaves_closing (ends_connection t.request.head) t.connection.leaves) same
+        (leaves_closing (ends_connection t.request.head) t.connection.leaves s.numbers.closing) same
 
     awaiting : s'.connections ≡ insert s.connections c (after_request (one_more s.numbers.exchange) (drop t.size t.connection.unread) t.connection)
         → LeaveOn s.connections s'.connections
@@ -197,7 +197,7 @@ answered_leaves : (settings : CoreSettings) (s : State) (x : OpenExchange) (k : 
     → s'.connections ≡ replied_to (asker_now settings s x k) s.connections → LeaveOn s.connections s'.connections
 answered_leaves settings s x k s' there same =
     leave_replied s.connections s'.connections (wanted_now settings s x.request k).closes x.connection k.unread k there
-    (leaves_closing (ends_connection x.request) k.leaves) same
+    (leaves_closing (ends_connection x.request) k.leaves s.numbers.closing) same
 
 -- ---- a forward ends
 
@@ -292,6 +292,8 @@ turn_passes settings (OriginSending f octets) s actions s' is t =
 turn_passes settings (Answering f ended) s actions s' is t = (answering_ends settings f ended s actions s' t).passes
 turn_passes settings (Failing f how) s actions s' is t = (failing_ends settings f how s actions s' t).passes
 turn_passes settings (Releasing e) s actions s' is t = releasing_passes settings e s actions s' t
+turn_passes settings Stopping s actions s' is t =
+    passes_same s s' (stopping s.numbers) t.numbers refl (leave_same s.connections s'.connections t.keeps.connections) refl t.keeps.forwards
 
 passes_nowhere : (s s' : State) → s' ≡ s → Passes s s'
 passes_nowhere s s' same =
@@ -317,6 +319,7 @@ plain_reading c (OriginSending f octets) is = tt
 plain_reading c (Answering f ended) is = tt
 plain_reading c (Failing f how) is = tt
 plain_reading c (Releasing e) is = tt
+plain_reading c Stopping is = tt
 
 plain_readings : (c : ℕ) (turns : List Turn) → AllByRecursion (Reads c) turns → AllByRecursion IsPlain turns
 plain_readings c [] are = tt
@@ -363,3 +366,4 @@ plain_owed (OriginBytes f octets) turns s s' other owes = subst (AllByRecursion 
 plain_owed (OriginEnd f) turns s s' other (inl owes) = plain_reply f (Answering f true) turns s s' tt owes
 plain_owed (OriginEnd f) turns s s' other (inr owes) = plain_reply f (Failing f IsCutOff) turns s s' tt owes
 plain_owed (OriginFailed f) turns s s' other owes = plain_reply f (Failing f IsLost) turns s s' tt owes
+plain_owed ToStop turns s s' other owes = subst (AllByRecursion IsPlain) (sym owes) (tt, tt)

@@ -6,7 +6,7 @@ use Rattle.std.proofs.lemmas.Bool.Decides.{nat_tests}
 use Rattle.hc_transcript.specs.Limits.{greatest_moment}
 use Rattle.hc_events.specs.declared.Event.{Event}
 use Rattle.hc_events.specs.declared.Happening.{Happening}
-use Rattle.hc_events.specs.declared.Happening.TheVariants.{ClientOpened, ClientBytes, ClientEnd, OriginBytes, OriginEnd, OriginFailed}
+use Rattle.hc_events.specs.declared.Happening.TheVariants.{ClientOpened, ClientBytes, ClientEnd, OriginBytes, OriginEnd, OriginFailed, Stopping}
 use Rattle.hc_service.specs.declared.action.Action.{Action}
 use Rattle.hc_service.specs.declared.action.Action.TheVariants as action
 use Rattle.hc_service.specs.declared.fault.StepFault.TheVariants.{MomentTooLarge, UnknownNumber, TooManyConnections}
@@ -94,6 +94,7 @@ fresh_by (ClientEnd c) last d was new before later = before later
 fresh_by (OriginBytes f octets) last d was new before later = before later
 fresh_by (OriginEnd f) last d was new before later = before later
 fresh_by (OriginFailed f) last d was new before later = before later
+fresh_by Stopping last d was new before later = before later
 
 -- ---- an event that was served
 
@@ -140,6 +141,7 @@ known_by room (ClientEnd c) s log m may = m.connections c ∙ may
 known_by room (OriginBytes f octets) s log m may = m.forwards f ∙ may
 known_by room (OriginEnd f) s log m may = m.forwards f ∙ may
 known_by room (OriginFailed f) s log m may = m.forwards f ∙ may
+known_by room Stopping s log m may = refl
 
 room_by : (room : ℕ) (happening : Happening) (s : State) (log : List Move) → Mirrors room s log → MayHappen room happening log → is_full happening s ≡ false
 room_by room (ClientOpened c) s log m may =
@@ -152,6 +154,7 @@ room_by room (ClientEnd c) s log m may = refl
 room_by room (OriginBytes f octets) s log m may = refl
 room_by room (OriginEnd f) s log m may = refl
 room_by room (OriginFailed f) s log m may = refl
+room_by room Stopping s log m may = refl
 
 pub may_happen_served : (room : ℕ) (event : Event) (s : State) (log : List Move) → Mirrors room s log → MayHappen room event.of log → first_fault event s ≡ moment_fault event
 may_happen_served room event s log m may =

@@ -1,7 +1,7 @@
 -- What passed at a link says whether it is open, and moves of other links leave it.
 use Rattle.std.proofs.Common.{◌≡◌, ℕ, Bool, true, false, cond, List, [], ◌∷◌, nat_eq, refl, ap, ◌∙◌}
 use Rattle.hc_events.specs.declared.Happening.{Happening}
-use Rattle.hc_events.specs.declared.Happening.TheVariants.{ClientOpened, ClientBytes, ClientEnd, OriginBytes, OriginEnd, OriginFailed}
+use Rattle.hc_events.specs.declared.Happening.TheVariants.{ClientOpened, ClientBytes, ClientEnd, OriginBytes, OriginEnd, OriginFailed, Stopping}
 use Rattle.hc_service.specs.Follows.{lost_by, opened_by}
 use Rattle.hc_order.specs.declared.receiver.Receiver.{Receiver}
 use Rattle.hc_order.specs.declared.receiver.Receiver.TheVariants.{Client, Origin}
@@ -27,6 +27,7 @@ client_open c (ClientEnd d) before = same_where (nat_eq d c) (ending before) bef
 client_open c (OriginBytes f octets) before = refl
 client_open c (OriginEnd f) before = refl
 client_open c (OriginFailed f) before = refl
+client_open c Stopping before = refl
 
 origin_open : (f : ℕ) (happening : Happening) (before : Passage) → (origin_behind f happening before).is_open ≡ lost_by f happening before.is_open
 origin_open f (ClientOpened c) before = refl
@@ -35,6 +36,7 @@ origin_open f (ClientEnd c) before = refl
 origin_open f (OriginBytes g octets) before = same_where (nat_eq g f) (hearing octets before) before refl
 origin_open f (OriginEnd g) before = same_where (nat_eq g f) (ending before) before refl
 origin_open f (OriginFailed g) before = opened_where (nat_eq g f) (closing before) before
+origin_open f Stopping before = refl
 
 pub client_is_open : (c : ℕ) (log : List Move) → (passage_of (Client c) log).is_open ≡ is_connected c log
 client_is_open c [] = refl
@@ -67,6 +69,7 @@ client_elsewhere c (ClientEnd d) before other = ap (λ (b : Bool). cond b (endin
 client_elsewhere c (OriginBytes f octets) before other = refl
 client_elsewhere c (OriginEnd f) before other = refl
 client_elsewhere c (OriginFailed f) before other = refl
+client_elsewhere c Stopping before other = refl
 
 origin_elsewhere : (f : ℕ) (happening : Happening) (before : Passage) → happens_on f happening ≡ false → origin_behind f happening before ≡ before
 origin_elsewhere f (ClientOpened c) before other = refl
@@ -75,6 +78,7 @@ origin_elsewhere f (ClientEnd c) before other = refl
 origin_elsewhere f (OriginBytes g octets) before other = ap (λ (b : Bool). cond b (hearing octets before) before) other
 origin_elsewhere f (OriginEnd g) before other = ap (λ (b : Bool). cond b (ending before) before) other
 origin_elsewhere f (OriginFailed g) before other = ap (λ (b : Bool). cond b (closing before) before) other
+origin_elsewhere f Stopping before other = refl
 
 pub left_elsewhere : (link : Receiver) (newest : Move) (log : List Move) → is_of link newest ≡ false → passage_of link (newest ∷ log) ≡ passage_of link log
 left_elsewhere link (Before last number given got reads failures) log other = absurd (cc)

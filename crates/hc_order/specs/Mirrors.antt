@@ -4,7 +4,7 @@ use Rattle.std.specs.FinMap.{get, len}
 use Rattle.hc_transcript.specs.Limits.{greatest_moment}
 use Rattle.hc_events.specs.declared.Event.{Event}
 use Rattle.hc_events.specs.declared.Happening.{Happening}
-use Rattle.hc_events.specs.declared.Happening.TheVariants.{ClientOpened, ClientBytes, ClientEnd, OriginBytes, OriginEnd, OriginFailed}
+use Rattle.hc_events.specs.declared.Happening.TheVariants.{ClientOpened, ClientBytes, ClientEnd, OriginBytes, OriginEnd, OriginFailed, Stopping}
 use Rattle.hc_service.specs.declared.fault.StepFault.{StepFault}
 use Rattle.hc_service.specs.declared.fault.StepFault.TheVariants.{MomentTooLarge}
 use Rattle.hc_service.specs.Numbers.{is_later}
@@ -79,7 +79,7 @@ pub record Mirrors (room : ℕ) (s : State) (log : List Move) : Type 0 where
   pub fresh : (c : ℕ) → is_later c (last_opened log) ≡ true → is_connected c log ≡ false
   pub has_room : s.numbers.room ≡ room
 
--- by the log, it may happen next: a connection opens of a greater number than all before, and there is room for it; anything else happens at what is open
+-- by the log, it may happen next: a connection opens of a greater number than all before, and there is room for it; anything else happens at what is open, but for a stop, which may come at any time
 abbrev pub MayHappen : ℕ → Happening → List Move → Type 0
 MayHappen room (ClientOpened c) log = (is_later c (last_opened log) ≡ true) × (opened_in log < room + closed_in log)
 MayHappen room (ClientBytes c octets) log = is_connected c log ≡ true
@@ -87,6 +87,7 @@ MayHappen room (ClientEnd c) log = is_connected c log ≡ true
 MayHappen room (OriginBytes f octets) log = is_underway f log ≡ true
 MayHappen room (OriginEnd f) log = is_underway f log ≡ true
 MayHappen room (OriginFailed f) log = is_underway f log ≡ true
+MayHappen room Stopping log = Unit {0}
 
 -- each event may happen by the log before it
 abbrev pub IsOrderly : ℕ → List Move → Type 0

@@ -19,6 +19,10 @@ pub enum Reason {
     Reset,
     /// So much was held beside the store that the link was failed.
     Held,
+    /// All places were taken and another client wanted one: this one had been silent for longest.
+    Displaced,
+    /// Nobody waited any more for what the forward was to bring.
+    Abandoned,
 }
 
 /// What happened, and why whoever drives a cache tells it.

@@ -11,7 +11,7 @@ use Rattle.hc_flow.specs.declared.heard.Heard.TheVariants.{Octets, End, Lost, No
 use Rattle.hc_link_traits.specs.Telling.{TellsIfOk, TellsSent, occurs}
 use Rattle.hc_order.proofs.PassageLemmas.{client_is_open, origin_is_open}
 use Rattle.hc_order.specs.declared.occurrence.Reason.{Reason}
-use Rattle.hc_order.specs.declared.occurrence.Reason.TheVariants.{Peer, Replies, Reads, Stop, Late, Reset, Held}
+use Rattle.hc_order.specs.declared.occurrence.Reason.TheVariants.{Peer, Replies, Reads, Stop, Late, Reset, Held, Displaced, Abandoned}
 use Rattle.hc_order.specs.declared.receiver.Receiver.TheVariants.{Client as to_client, Origin as to_origin}
 use Rattle.hc_order.specs.Log.{Move}
 use Rattle.hc_order.specs.Log.Move.{Heard as Told, Sent}
@@ -42,6 +42,8 @@ in_turn_for k awaited Reads free = tt
 in_turn_for k awaited Late free = tt
 in_turn_for k awaited Reset free = tt
 in_turn_for k awaited Held free = tt
+in_turn_for k awaited Displaced free = (refl, sym free)
+in_turn_for k awaited Abandoned free = tt
 
 client_in_turn : (k : ℕ) (awaited : Bool) (result : Result Heard AllocError) → IsHeardInTurn awaited result → HeardInTurn (IsAnswerOf k awaited) (told (to_client k) result)
 client_in_turn k awaited (Ok (Octets octets)) free = (refl, sym free)

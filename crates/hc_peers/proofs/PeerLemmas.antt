@@ -7,9 +7,9 @@ use Rattle.std.specs.Map.{lookup}
 use Rattle.std.specs.Ordering.{nat_cmp}
 use Rattle.std.specs.declared.alloc.AllocError.{AllocError}
 use Rattle.hc_events.specs.declared.Happening.{Happening}
-use Rattle.hc_events.specs.declared.Happening.TheVariants.{ClientOpened, ClientBytes, ClientEnd, OriginBytes, OriginEnd, OriginFailed}
+use Rattle.hc_events.specs.declared.Happening.TheVariants.{ClientOpened, ClientBytes, ClientEnd, OriginBytes, OriginEnd, OriginFailed, Stopping}
 use Rattle.hc_order.specs.declared.occurrence.Reason.{Reason}
-use Rattle.hc_order.specs.declared.occurrence.Reason.TheVariants.{Peer, Replies, Reads, Stop, Late, Reset, Held}
+use Rattle.hc_order.specs.declared.occurrence.Reason.TheVariants.{Peer, Replies, Reads, Stop, Late, Reset, Held, Displaced, Abandoned}
 use Rattle.hc_service.specs.Numbers.{is_later}
 use Rattle.hc_link_traits.specs.declared.happened.Happened.{Happened}
 use Rattle.hc_link_traits.specs.Batches.{NothingIsOpen}
@@ -49,10 +49,13 @@ waited_by P Q (ClientEnd c) Reads waited leads = tt
 waited_by P Q (ClientEnd c) Late waited leads = tt
 waited_by P Q (ClientEnd c) Reset waited leads = tt
 waited_by P Q (ClientEnd c) Held waited leads = tt
+waited_by P Q (ClientEnd c) Displaced waited leads = leads c _ waited
+waited_by P Q (ClientEnd c) Abandoned waited leads = tt
 waited_by P Q (ClientOpened c) reason waited leads = tt
 waited_by P Q (OriginBytes f octets) reason waited leads = tt
 waited_by P Q (OriginEnd f) reason waited leads = tt
 waited_by P Q (OriginFailed f) reason waited leads = tt
+waited_by P Q Stopping reason waited leads = tt
 
 pub heard_by : (P Q : ℕ → Bool → Type 0) (result : Result (Option Happened) AllocError) → HeardInTurn P result → ((c : ℕ) (answer : Bool) → P c answer → Q c answer) → HeardInTurn Q result
 heard_by P Q (Ok (Some happened)) waited leads = waited_by P Q happened.of happened.reason waited leads

@@ -1,11 +1,10 @@
 -- Why a client is heard.
-use Rattle.std.specs.Prelude.{◌≡◌, ◌||◌, Bool, true, false, Option, Some, None, Result, Ok, Err}
+use Rattle.std.specs.Prelude.{◌≡◌, Bool, true, false, Option, Some, None, Result, Ok, Err}
 use Rattle.std.specs.declared.alloc.AllocError.{AllocError}
 use Rattle.hc_flow.specs.Hearings.{FailsOnly, HasFailed}
-use Rattle.hc_flow.specs.Flows.{is_owed}
 use Rattle.hc_flow.specs.declared.heard.Heard.{Heard}
 use Rattle.hc_flow.specs.declared.heard.Heard.TheVariants.{Octets, End, Lost, Nothing}
-use Rattle.hc_order.specs.declared.occurrence.Reason.TheVariants.{Peer, Stop, Late, Reset, Held}
+use Rattle.hc_order.specs.declared.occurrence.Reason.TheVariants.{Peer, Stop, Late, Reset, Held, Displaced}
 use Rattle.hc_peers.specs.declared.client.Client.{Client}
 use Rattle.hc_peers.specs.declared.client.Hearing.{Hearing}
 
@@ -26,23 +25,23 @@ abbrev pub HasEndedAt : {S : Type 0} → (S → Type 0) → Option (Client S) �
 HasEndedAt has_ended None = ⊥
 HasEndedAt has_ended (Some client) = has_ended client.flow.stream
 
--- a client is read, and its own end is heard, until a stop is asked; then its end is heard for that; or it is heard because its time is over, because it was cut off, or because its link has failed
-abbrev pub IsHeardFor : (stops is_late is_cut : Bool) → (has_failed : Type 0) → Result Heard AllocError → Type 0
-IsHeardFor stops is_late is_cut has_failed (Ok (Octets octets)) = stops ≡ false
-IsHeardFor stops is_late is_cut has_failed (Ok (End Peer)) = stops ≡ false
-IsHeardFor stops is_late is_cut has_failed (Ok (End Stop)) = stops ≡ true
-IsHeardFor stops is_late is_cut has_failed (Ok (End Late)) = is_late ≡ true
-IsHeardFor stops is_late is_cut has_failed (Ok (End Held)) = is_cut ≡ true
-IsHeardFor stops is_late is_cut has_failed (Ok (End Reset)) = has_failed
-IsHeardFor stops is_late is_cut has_failed (Ok (End other)) = ⊥
-IsHeardFor stops is_late is_cut has_failed (Ok (Lost reason)) = ⊥
-IsHeardFor stops is_late is_cut has_failed (Ok Nothing) = Unit {0}
-IsHeardFor stops is_late is_cut has_failed (Err refused) = Unit {0}
+-- a client is read: no stop ends it, and it gives way to nobody
+abbrev pub IsRead : Hearing → Type 0
+IsRead hearing = (hearing.stops ≡ false) × (hearing.gives_way ≡ false)
 
--- whether a client isn't read in such a turn: it has ended, or is told of without a read, or is held back
-abbrev pub isnt_read : {S : Type 0} → Client S → Hearing → Bool
-isnt_read client hearing =
-    client.ended || (client.closed || (client.cut || (hearing.late || (client.flow.failed || ((hearing.awaited || is_owed client.flow) || hearing.stops)))))
+-- a client is read, and its own end is heard, unless a stop ends it, or it gives way; then its end is heard for that; or it is heard because its time is over, because it was cut off, or because its link has failed
+abbrev pub IsHeardFor : Hearing → (is_cut : Bool) → (has_failed : Type 0) → Result Heard AllocError → Type 0
+IsHeardFor hearing is_cut has_failed (Ok (Octets octets)) = IsRead hearing
+IsHeardFor hearing is_cut has_failed (Ok (End Peer)) = IsRead hearing
+IsHeardFor hearing is_cut has_failed (Ok (End Stop)) = hearing.stops ≡ true
+IsHeardFor hearing is_cut has_failed (Ok (End Late)) = hearing.late ≡ true
+IsHeardFor hearing is_cut has_failed (Ok (End Held)) = is_cut ≡ true
+IsHeardFor hearing is_cut has_failed (Ok (End Displaced)) = hearing.gives_way ≡ true
+IsHeardFor hearing is_cut has_failed (Ok (End Reset)) = has_failed
+IsHeardFor hearing is_cut has_failed (Ok (End other)) = ⊥
+IsHeardFor hearing is_cut has_failed (Ok (Lost reason)) = ⊥
+IsHeardFor hearing is_cut has_failed (Ok Nothing) = Unit {0}
+IsHeardFor hearing is_cut has_failed (Err refused) = Unit {0}
 
 -- a client's link has failed only where that was known before, where its stream has failed by now, or on that ground
 abbrev pub ClientFailsOnly : {S : Type 0} → (S → Type 0) → (ground : Type 0) → Option (Client S) → Option (Client S) → Type 0

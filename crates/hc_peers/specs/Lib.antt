@@ -5,6 +5,7 @@ pub mod Heard
 pub mod Hearings
 pub mod Keeping
 pub mod Known
+pub mod Leaving
 pub mod Lingering
 pub mod Losses
 pub mod Peers

@@ -1,6 +1,7 @@
 //! One client's link.
 
-ghost use Rattle.std.specs.Prelude.{◌≡◌, ◌⊎◌, ◌&&◌, ◌||◌, not, Bool, true, false, [], length, Some, nat_lt, IsErr};
+ghost use Rattle.std.specs.Prelude.{◌≡◌, ◌⊎◌, ◌&&◌, ◌||◌, not, Bool, true, false, [], length, Some, None, nat_lt, IsErr};
+ghost use Rattle.hc_peers.specs.Leaving.{left_behind};
 
 use hc_flow::{
     Arrival, Emptying, Flow, Heard, Pace, Patience, Readiness, Stream, hear_flow, wants_turn,
@@ -16,6 +17,8 @@ pub struct Hearing {
     pub awaited: bool,
     /// Whether a stop ends the client.
     pub stops: bool,
+    /// Whether it gives way to another client.
+    pub gives_way: bool,
     /// Whether its time is over.
     pub late: bool,
     /// When it is heard.
@@ -33,8 +36,8 @@ pub struct Client<S: Stream> {
     cut: bool,
     /// Whether it stands among the turns.
     queued: bool,
-    /// Whether it wasn't read yet.
-    fresh: bool,
+    /// When the system first told that it has ended, or that its link has failed.
+    left: Option<u64>,
     /// How it is getting on.
     pace: Pace,
 }
@@ -47,7 +50,7 @@ impl<S: Stream + Drop> Drop for Client<S> {
             closed: _,
             cut: _,
             queued: _,
-            fresh: _,
+            left: _,
             pace: _,
         } = self;
         drop(flow);
@@ -58,9 +61,11 @@ impl<S: Stream> Client<S> {
     ghost use Rattle.hc_order.specs.Passages.{Passage, closing, ending, opened_with};
     ghost use Rattle.hc_flow.specs.Paces.{due, owing, written};
     ghost use Rattle.hc_flow.specs.Hearings.{FailsOnly, HasFailed, IsHeardInTurn, IsHeardOpen, IsRealEnd, KeepsHeard, KeepsSent, ends_by, wants_turn};
-    ghost use Rattle.hc_peers.specs.Hearings.{IsHeardFor, IsToldAtOnce, isnt_read};
+    ghost use Rattle.hc_peers.specs.Hearings.{IsHeardFor, IsRead, IsToldAtOnce};
     ghost use Rattle.hc_flow.specs.Flows.{TellsOwed, is_owed};
     ghost use Rattle.hc_peers.specs.Clients.{IsClient, may_go};
+    ghost use Rattle.hc_peers.specs.Leaving.{has_left, left_behind};
+    ghost use Rattle.hc_peers.specs.declared.client.Hearing.{Hearing};
     ghost use Rattle.hc_peers.specs.Times.{pace_behind};
     ghost use Rattle.hc_flow.specs.Passing.{Stays};
 
@@ -70,7 +75,7 @@ impl<S: Stream> Client<S> {
         ensures queued { result.queued ≡ true }
         ensures stream { result.flow.stream ≡ stream }
         ensures pace { result.pace ≡ Pace.Idle tick }
-        ensures state { (result.cut ≡ false) × (result.fresh ≡ true) }
+        ensures state { (result.cut ≡ false) × (result.left ≡ None) }
     {
         Client {
             flow: Flow::new(alloc, stream),
@@ -78,7 +83,7 @@ impl<S: Stream> Client<S> {
             closed: false,
             cut: false,
             queued: true,
-            fresh: true,
+            left: None,
             pace: Pace::Idle(tick),
         }
     }
@@ -98,14 +103,13 @@ impl<S: Stream> Client<S> {
             → IsHeardOpen passage.is_open passage.is_ended result }
         ensures in_turn { IsHeardInTurn hearing.awaited result }
         ensures owed { IsHeardInTurn (is_owed self.old.flow) result }
-        ensures reason { IsHeardFor hearing.stops hearing.late self.old.cut (HasFailed S.has_failed self.old.flow self.new.flow) result }
+        ensures reason { IsHeardFor hearing self.old.cut (HasFailed S.has_failed self.old.flow self.new.flow) result }
         ensures over { IsRealEnd (S.has_ended self.new.flow.stream) result }
         ensures at_once { self.old.ended ≡ false → self.old.closed ≡ false → IsToldAtOnce self.old.cut hearing.late result }
         ensures fails { FailsOnly S.has_failed ((hearing.late ≡ true) ⊎ IsErr result) self.old.flow self.new.flow }
         ensures rest { self.new ≡ record self.old {
           flow = self.new.flow;
           ended = ends_by result self.old.ended;
-          fresh = self.old.fresh && isnt_read self.old hearing;
           pace = pace_behind result hearing.tick self.old.pace;
         } }
         ensures got { Stays (S.has_got self.old.flow.stream) (S.has_got self.new.flow.stream) }
@@ -131,6 +135,9 @@ impl<S: Stream> Client<S> {
         }
         if hearing.stops {
             return Ok(self.end(Reason::Stop));
+        }
+        if hearing.gives_way {
+            return Ok(self.end(Reason::Displaced));
         }
         self.read(alloc, buffer, hearing.tick)
     }
@@ -159,12 +166,11 @@ impl<S: Stream> Client<S> {
         ensures kept { self.old.closed ≡ false → (passage : Passage) → IsClient S.has_given S.has_got self.old passage
             → KeepsHeard (IsClient S.has_given S.has_got self.new) result passage }
         ensures over { IsRealEnd (S.has_ended self.new.flow.stream) result }
-        ensures reason { (late cut : Bool) → IsHeardFor false late cut (HasFailed S.has_failed self.old.flow self.new.flow) result }
+        ensures reason { (hearing : Hearing) (cut : Bool) → IsRead hearing → IsHeardFor hearing cut (HasFailed S.has_failed self.old.flow self.new.flow) result }
         ensures fails { FailsOnly S.has_failed (IsErr result) self.old.flow self.new.flow }
-        ensures rest { self.new ≡ record self.old { flow = self.new.flow; ended = ends_by result self.old.ended; fresh = false; pace = pace_behind result tick self.old.pace } }
+        ensures rest { self.new ≡ record self.old { flow = self.new.flow; ended = ends_by result self.old.ended; pace = pace_behind result tick self.old.pace } }
         ensures got { Stays (S.has_got self.old.flow.stream) (S.has_got self.new.flow.stream) }
     {
-        self.fresh = false;
         match hear_flow(alloc, &mut self.flow, buffer)? {
             Heard::Octets(octets) => {
                 self.pace = self.pace.asking(octets.len() as u64, tick);
@@ -220,18 +226,32 @@ impl<S: Stream> Client<S> {
     }
 
     /// What the system tells of the link. Returns whether it has to get a turn for that now.
-    pub(crate) fn learn(&mut self, readiness: Readiness) -> bool
+    pub(crate) fn learn(&mut self, readiness: Readiness, tick: u64) -> bool
         ensures kept { (passage : Passage) → IsClient S.has_given S.has_got self.old passage → IsClient S.has_given S.has_got self.new passage }
         ensures first { result ≡ (wants_turn readiness && not self.old.queued) }
-        ensures rest { self.new ≡ record self.old { flow = self.new.flow; queued = wants_turn readiness || self.old.queued } }
+        ensures rest { self.new ≡ record self.old { flow = self.new.flow; queued = wants_turn readiness || self.old.queued; left = left_behind readiness tick self.old.left } }
         ensures failed { self.new.flow.failed ≡ (self.old.flow.failed || readiness.failed) }
         ensures got { Stays (S.has_got self.old.flow.stream) (S.has_got self.new.flow.stream) }
     {
         self.flow.learn(readiness);
+        self.left = left_behind(readiness, tick, self.left);
         if !wants_turn(readiness) {
             return false;
         }
         self.queue()
+    }
+
+    /// Whether it had left by that millisecond: the system had told that it has ended, or its link has failed.
+    pub fn has_left(&self, by: u64) -> bool
+        ensures { result ≡ has_left by (Some self.now) }
+    {
+        if self.flow.has_failed() {
+            return true;
+        }
+        match self.left {
+            Some(since) => since <= by,
+            None => false,
+        }
     }
 
     /// Its time is over: what is owed is lost.
@@ -302,13 +322,6 @@ impl<S: Stream> Client<S> {
         self.pace.is_overdue(tick, patience)
     }
 
-    /// Whether it wasn't read yet.
-    pub fn is_fresh(&self) -> bool
-        ensures { result ≡ self.now.fresh }
-    {
-        self.fresh
-    }
-
     /// Whether it was cut off.
     pub fn is_cut(&self) -> bool
         ensures { result ≡ self.now.cut }
@@ -363,5 +376,18 @@ impl<S: Stream> Client<S> {
         ensures got { Stays (S.has_got self.old.flow.stream) (S.has_got self.new.flow.stream) }
     {
         self.queued = false;
+    }
+}
+
+/// When a client has left, behind what the system tells of its link: as soon as that is told.
+fn left_behind(readiness: Readiness, tick: u64, before: Option<u64>) -> Option<u64>
+    ensures { result ≡ left_behind readiness tick before }
+{
+    if !(readiness.ended || readiness.failed) {
+        return before;
+    }
+    match before {
+        Some(since) => Some(since),
+        None => Some(tick),
     }
 }

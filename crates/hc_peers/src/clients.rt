@@ -22,6 +22,7 @@ impl<S: Stream + Drop> Peers<S> {
     ghost use Rattle.hc_peers.specs.Hearings.{HasEndedAt, HasFailedAt, IsHeardFor, IsToldAtOnce};
     ghost use Rattle.hc_peers.specs.Keeping.{Hears, KeepsPeers};
     ghost use Rattle.hc_peers.specs.Known.{KeepsPace, is_connected_at, is_cut_at, is_failed_at, is_open_at, is_owed_at, held_at, known_at, pace_at};
+    ghost use Rattle.hc_peers.specs.Leaving.{has_left};
     ghost use Rattle.hc_peers.specs.Peers.{ArePeers, Bounds, ChangesOnly, FailsOnlyAt, IsNext, MayOpen, is_client_overdue};
     ghost use Rattle.hc_peers.specs.Peers.Bounds.{AtMost};
     ghost use Rattle.hc_peers.specs.Shown.{ShowNoMore};
@@ -62,7 +63,7 @@ impl<S: Stream + Drop> Peers<S> {
     ) -> Result<Heard, AllocError>
         ensures heard { Hears S.has_given S.has_got (IsAnswerOf number hearing.awaited) (told (to.Client number) result) self.old self.new }
         ensures owed { IsHeardInTurn (is_owed_at number self.old.clients.links) result }
-        ensures reason { IsHeardFor hearing.stops hearing.late (is_cut_at number self.old.clients.links)
+        ensures reason { IsHeardFor hearing (is_cut_at number self.old.clients.links)
             (HasFailedAt S.has_failed (known_at number self.old.clients.links) (known_at number self.new.clients.links)) result }
         // Its own end is told only where the client has ended what it sends.
         ensures over { IsRealEnd (HasEndedAt S.has_ended (known_at number self.new.clients.links)) result }
@@ -109,6 +110,17 @@ impl<S: Stream + Drop> Peers<S> {
         match self.clients.links.get(&number) {
             Some(client) => client.is_overdue(tick, patience),
             None => false,
+        }
+    }
+
+    /// Whether a client had left by that millisecond: the system had told that it has ended, or its link has failed. So has one
+    /// that isn't there.
+    pub fn has_left(&self, number: u64, by: u64) -> bool
+        ensures { result ≡ has_left by (get nat_cmp self.now.clients.links number) }
+    {
+        match self.clients.links.get(&number) {
+            Some(client) => client.has_left(by),
+            None => true,
         }
     }
 

@@ -102,6 +102,9 @@ impl<S: Stream + Drop> Peers<S> {
         ensures there { result ≡ true → is_some (get nat_cmp self.new.turned_away.links guest) ≡ true }
         ensures refused { result ≡ true → (ended : Bool) → S.has_got stream [] → S.was_ended stream ended
             → IfSome (get nat_cmp self.new.turned_away.links guest) (IsRefused S.has_got S.was_ended refusal.now) }
+        // Else all is as it was, and so it is wherever there is no room.
+        ensures closed { result ≡ false → get nat_cmp self.new.turned_away.links guest ≡ get nat_cmp self.old.turned_away.links guest }
+        ensures room { has_room self.old.turned_away ≡ false → result ≡ false }
         ensures others { KeepsOthers guest self.old.turned_away.links self.new.turned_away.links }
         ensures rest { self.new ≡ record self.old { turned_away = self.new.turned_away } }
     {

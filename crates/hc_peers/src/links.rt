@@ -57,7 +57,7 @@ impl<S: Stream + Drop> Peers<S> {
     }
 
     /// What the system tells of a link. Returns whether it has to get a turn for that now.
-    pub fn learn(&mut self, link: Receiver, readiness: Readiness) -> bool
+    pub fn learn(&mut self, link: Receiver, readiness: Readiness, tick: u64) -> bool
         ensures kept { KeepsPeers S.has_given S.has_got self.old self.new }
         ensures first { result ≡ (wants_turn readiness && is_unqueued link self.old) }
         ensures fails { FailsOnlyAt S.has_failed (is_failed_by readiness link self.old ≡ true) link self.old self.new }
@@ -66,7 +66,7 @@ impl<S: Stream + Drop> Peers<S> {
     {
         match link {
             Receiver::Client(number) => match self.clients.links.get_mut(&number) {
-                Some(client) => client.learn(readiness),
+                Some(client) => client.learn(readiness, tick),
                 None => false,
             },
             Receiver::Origin(number) => match self.forwards.links.get_mut(&number) {

@@ -12,7 +12,7 @@ impl<S: Stream + Drop> Peers<S> {
     ghost use Rattle.std.specs.BTreeMap.{get, is_at};
     ghost use Rattle.std.specs.Ordering.{nat_cmp};
     ghost use Rattle.hc_agenda.specs.Places.{HasPlaceLeft, has_place};
-    ghost use Rattle.hc_peers.specs.Lingering.{is_lingering};
+    ghost use Rattle.hc_peers.specs.Lingering.{GainsNoLingerer, is_lingering};
     ghost use Rattle.hc_peers.specs.Forwards.{is_linked};
     ghost use Rattle.hc_peers.specs.Keeping.{KeepsPeers};
 
@@ -20,6 +20,7 @@ impl<S: Stream + Drop> Peers<S> {
     /// memory for that; else the link is dropped.
     pub fn linger(&mut self, forward: u64, stream: S) -> bool
         ensures kept { KeepsPeers S.has_given S.has_got self.old self.new }
+        ensures others { (f : ℕ) → is_at (nat_cmp forward) f ≡ false → is_lingering f self.new.lingering ≡ is_lingering f self.old.lingering }
         ensures rest { self.new ≡ record self.old { lingering = self.new.lingering } }
     {
         if !self.may_linger(forward) {
@@ -48,6 +49,7 @@ impl<S: Stream + Drop> Peers<S> {
     /// A link that lingers stands among the turns. Returns whether it lingers and didn't stand there before.
     pub fn queue_lingering(&mut self, forward: u64) -> bool
         ensures kept { KeepsPeers S.has_given S.has_got self.old self.new }
+        ensures gains { GainsNoLingerer self.old.lingering self.new.lingering }
         ensures rest { self.new ≡ record self.old { lingering = self.new.lingering } }
     {
         match self.lingering.links.get_mut(&forward) {
@@ -59,6 +61,7 @@ impl<S: Stream + Drop> Peers<S> {
     /// Reads what comes on a link that lingers, once, and drops it. It stands among the turns no more.
     pub fn discard_lingering(&mut self, forward: u64, buffer: &mut [u8]) -> Remainder
         ensures kept { KeepsPeers S.has_given S.has_got self.old self.new }
+        ensures gains { GainsNoLingerer self.old.lingering self.new.lingering }
         ensures rest { self.new ≡ record self.old { lingering = self.new.lingering } }
     {
         match self.lingering.links.get_mut(&forward) {
@@ -70,6 +73,7 @@ impl<S: Stream + Drop> Peers<S> {
     /// Drops a link that lingers. Returns whether it lingered.
     pub fn drop_lingering(&mut self, forward: u64) -> bool
         ensures kept { KeepsPeers S.has_given S.has_got self.old self.new }
+        ensures gains { GainsNoLingerer self.old.lingering self.new.lingering }
         ensures rest { self.new ≡ record self.old { lingering = self.new.lingering } }
     {
         self.lingering.links.remove(&forward).is_some()
@@ -78,6 +82,7 @@ impl<S: Stream + Drop> Peers<S> {
     /// Drops the link of the least forward whose link lingers, and answers which that is.
     pub fn drop_least_lingering(&mut self) -> Option<u64>
         ensures kept { KeepsPeers S.has_given S.has_got self.old self.new }
+        ensures gains { GainsNoLingerer self.old.lingering self.new.lingering }
         ensures rest { self.new ≡ record self.old { lingering = self.new.lingering } }
     {
         match self.lingering.links.pop_first() {

@@ -127,6 +127,7 @@ fn in_milliseconds(limits: ProxyLimits) -> Limits {
         patience: patience_of(limits.patience),
         queue_timeout: milliseconds(limits.patience.queue_timeout),
         connect_timeout: milliseconds(limits.connect_timeout),
+        abandoned: milliseconds(limits.patience.abandoned),
         drain_timeout: milliseconds(limits.drain_timeout),
         clients: limits.clients,
     }

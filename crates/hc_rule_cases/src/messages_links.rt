@@ -7,9 +7,10 @@ use crate::messages_describing;
 use crate::messages_parts::{joined, kind};
 use crate::messages_whole::other;
 use hc_cases::{Case, Unanswered, show};
+use hc_events::Trouble;
 use hc_framing::{Kind, Message};
-use hc_head::{RequestHead, ResponseHead, StatusCode, Target};
-use hc_links::{Arrival, Heard, RequestReader, ResponseReader};
+use hc_head::{RequestHead, ResponseHead, Target};
+use hc_links::{Arrival, Ended, Heard, RequestReader, ResponseReader, refusal_status};
 use std::alloc::{AllocError, Global};
 use std::fmt::Write;
 
@@ -59,9 +60,9 @@ fn read_requests(
         }
     }
     match reader.end()? {
-        Some(status) => {
-            let number = status.as_u16();
-            write!(text, "end: refused {number}")
+        Some(trouble) => {
+            text.push_str("end: ")?;
+            show_refusal(trouble, text)
         }
         None => text.push_str("end: closed"),
     }
@@ -75,18 +76,28 @@ fn refused(reader: &mut RequestReader, text: &mut String) -> Result<bool, AllocE
     'requests: loop {
         match reader.next()? {
             Arrival::Request(message, target) => shown(message, target, text)?,
-            Arrival::Refused(status) => return refusal(status, text),
+            Arrival::Refused(trouble) => return refusal(trouble, text),
             Arrival::More => return Ok(false),
         }
     }
 }
 
-fn refusal(status: StatusCode, text: &mut String) -> Result<bool, AllocError>
+fn refusal(trouble: Trouble, text: &mut String) -> Result<bool, AllocError>
     ensures { IfOk result (λ is. is ≡ true) }
 {
-    let number = status.as_u16();
-    write!(text, "refused {number}")?;
+    show_refusal(trouble, text)?;
     Ok(true)
+}
+
+fn show_refusal(trouble: Trouble, text: &mut String) -> Result<(), AllocError> {
+    let number = refusal_status(trouble).as_u16();
+    let name = trouble.name();
+    write!(text, "refused {number}, since {name}")
+}
+
+fn show_failure(trouble: Trouble, text: &mut String) -> Result<(), AllocError> {
+    text.push_str("failed, since ")?;
+    text.push_str(trouble.name())
 }
 
 fn shown(
@@ -174,14 +185,14 @@ fn read_response(
     'pieces: for piece in octets.chunks(size) {
         match reader.hear(piece)? {
             Heard::Response(message) => return response(message, text),
-            Heard::Failed => return text.push_str("failed"),
+            Heard::Failed(trouble) => return show_failure(trouble, text),
             Heard::More => {}
         }
     }
     text.push_str("end: ")?;
     match reader.end()? {
-        Some(message) => response(message, text),
-        None => text.push_str("failed"),
+        Ended::Response(message) => response(message, text),
+        Ended::Failed(trouble) => show_failure(trouble, text),
     }
 }
 

@@ -65,21 +65,21 @@ pub begins_bare : (k : EventKind) (number moment size : ℕ) (text behind : List
     → BeginsEvent text (event_with (record { kind = k; number = number; moment = moment; size = size }) []) behind
 begins_bare kind.ClientOpened number moment size text behind bare has = record {
   text_is = has.octets_are ∙ sym (append_assoc (line_text (record { kind = kind.ClientOpened; number = number; moment = moment; size = size })) (10 ∷ []) behind);
-  fits = record { number = has.fits.number; moment = has.fits.moment; size = omega arith };
+  fits = record { told = tt; line = record { number = has.fits.number; moment = has.fits.moment; size = omega arith } };
 }
 begins_bare kind.ClientBytes number moment size text behind bare has = absurd (true_is_not_false bare)
 begins_bare kind.ClientEnd number moment size text behind bare has = record {
   text_is = has.octets_are ∙ sym (append_assoc (line_text (record { kind = kind.ClientEnd; number = number; moment = moment; size = size })) (10 ∷ []) behind);
-  fits = record { number = has.fits.number; moment = has.fits.moment; size = omega arith };
+  fits = record { told = tt; line = record { number = has.fits.number; moment = has.fits.moment; size = omega arith } };
 }
 begins_bare kind.OriginBytes number moment size text behind bare has = absurd (true_is_not_false bare)
 begins_bare kind.OriginEnd number moment size text behind bare has = record {
   text_is = has.octets_are ∙ sym (append_assoc (line_text (record { kind = kind.OriginEnd; number = number; moment = moment; size = size })) (10 ∷ []) behind);
-  fits = record { number = has.fits.number; moment = has.fits.moment; size = omega arith };
+  fits = record { told = tt; line = record { number = has.fits.number; moment = has.fits.moment; size = omega arith } };
 }
 begins_bare kind.OriginFailed number moment size text behind bare has = record {
   text_is = has.octets_are ∙ sym (append_assoc (line_text (record { kind = kind.OriginFailed; number = number; moment = moment; size = size })) (10 ∷ []) behind);
-  fits = record { number = has.fits.number; moment = has.fits.moment; size = omega arith };
+  fits = record { told = tt; line = record { number = has.fits.number; moment = has.fits.moment; size = omega arith } };
 }
 
 events_text-append : (events : List Event) (e : Event) → events_text (events ++ e ∷ []) ≡ events_text events ++ event_text e

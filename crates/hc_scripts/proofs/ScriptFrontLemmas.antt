@@ -66,7 +66,7 @@ event_torn e front left fits so some =
         inr (record {
           line = line_of e;
           behind = b.rest;
-          has = record { octets_are = b.front_is ∙ joined (line_text (line_of e)) b.rest; fits = fits };
+          has = record { octets_are = b.front_is ∙ joined (line_text (line_of e)) b.rest; fits = fits.line };
           brings = is;
           breaks = omega (arith, ap length octets, length-append b.rest left, length-append (octets_of e.of) (10 ∷ []), some_long left some);
         })
@@ -76,7 +76,7 @@ event_torn e front left fits so some =
 
     go : Behind (line_text (line_of e) ++ 10 ∷ []) (octets_text (kind_of e.of) (octets_of e.of)) front left ⊎ Inside (line_text (line_of e) ++ 10 ∷ []) front → EventBreaks fault.Torn front
     go (inl behind) = brings (has_octets (kind_of e.of)) refl behind
-    go (inr inside) = inl (unfinished_line (line_text (line_of e)) front inside.left (line_lacks_feed (line_of e) fits) (line_short (line_of e) fits) inside.part_is inside.some)
+    go (inr inside) = inl (unfinished_line (line_text (line_of e)) front inside.left (line_lacks_feed (line_of e) fits.line) (line_short (line_of e) fits.line) inside.part_is inside.some)
 
 -- a front of events is the first of them, and nothing or a torn one
 record IsFrontOf (front : List ℕ) (events : List Event) : Type 0 where

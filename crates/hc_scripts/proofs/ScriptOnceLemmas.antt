@@ -6,7 +6,7 @@ use Rattle.std.proofs.Math.Seq.{take-append_seam, drop-append_seam, get_or-appen
 use Rattle.std.proofs.lemmas.List.{append_cancel_left}
 use Rattle.hc_events.specs.declared.Event.{Event}
 use Rattle.hc_events.specs.declared.Happening.{Happening}
-use Rattle.hc_events.specs.declared.Happening.TheVariants.{ClientOpened, ClientBytes, ClientEnd, OriginBytes, OriginEnd, OriginFailed}
+use Rattle.hc_events.specs.declared.Happening.TheVariants.{ClientOpened, ClientBytes, ClientEnd, OriginBytes, OriginEnd, OriginFailed, Stopping}
 use Rattle.hc_transcript.specs.Limits.{longest_line}
 use Rattle.hc_transcript.specs.Lines.{is_feed, HasLongLine}
 use Rattle.hc_transcript.proofs.MarkLemmas.{first_mark_unique, mark_within}
@@ -15,7 +15,7 @@ use Rattle.hc_scripts.specs.declared.fault.ScriptFault.{ScriptFault}
 use Rattle.hc_scripts.specs.declared.fault.ScriptFault.TheVariants as fault
 use Rattle.hc_scripts.specs.declared.kind.EventKind.{EventKind}
 use Rattle.hc_scripts.specs.declared.script.Script.{Script}
-use Rattle.hc_scripts.specs.Scripts.{has_octets, line_text, IsEventLine, IsSettingsLine, kind_of, number_of, octets_of, line_of, octets_text, event_text, events_text, EventFits, opening, settings_text, Splits, IsScript}
+use Rattle.hc_scripts.specs.Scripts.{has_octets, line_text, IsEventLine, IsSettingsLine, IsTold, kind_of, number_of, octets_of, line_of, octets_text, event_text, events_text, EventFits, opening, settings_text, Splits, IsScript}
 use Rattle.hc_scripts.specs.ScriptFaults.{OpeningBreaks, BeginsLine, LineBreaks, IsLineOfEvent, IsLineOfSettings, HasLine, OctetsBreak, EventBreaks, ScriptBreaks}
 use Rattle.hc_scripts.specs.ScriptParts.{BeginsSettings, happening_with}
 use Rattle.hc_scripts.proofs.ScriptNumeralLemmas.{unsplit}
@@ -65,13 +65,14 @@ one_line_fault IsLine fault.Settings e octets a b = absurd a
 
 -- ---- events
 
-happening_is : (of : Happening) → happening_with (kind_of of) (number_of of) (octets_of of) ≡ of
-happening_is (ClientOpened c) = refl
-happening_is (ClientBytes c octets) = refl
-happening_is (ClientEnd c) = refl
-happening_is (OriginBytes f octets) = refl
-happening_is (OriginEnd f) = refl
-happening_is (OriginFailed f) = refl
+happening_is : (of : Happening) → IsTold of → happening_with (kind_of of) (number_of of) (octets_of of) ≡ of
+happening_is (ClientOpened c) told = refl
+happening_is (ClientBytes c octets) told = refl
+happening_is (ClientEnd c) told = refl
+happening_is (OriginBytes f octets) told = refl
+happening_is (OriginEnd f) told = refl
+happening_is (OriginFailed f) told = refl
+happening_is Stopping told = absurd told
 
 octets_none : (of : Happening) → has_octets (kind_of of) ≡ false → octets_of of ≡ []
 octets_none (ClientOpened c) none = refl
@@ -80,11 +81,12 @@ octets_none (ClientEnd c) none = refl
 octets_none (OriginBytes f octets) none = absurd (false_is_no_true none)
 octets_none (OriginEnd f) none = refl
 octets_none (OriginFailed f) none = refl
+octets_none Stopping none = refl
 
 -- an event is its line and its octets
-one_line_and_octets : (e g : Event) → line_of e ≡ line_of g → octets_of e.of ≡ octets_of g.of → e ≡ g
-one_line_and_octets e g line octets =
-    let of-is : e.of ≡ g.of = sym (happening_is e.of) ∙ (λ i. happening_with (line i).kind (line i).number (octets i)) ∙ happening_is g.of in
+one_line_and_octets : (e g : Event) → IsTold e.of → IsTold g.of → line_of e ≡ line_of g → octets_of e.of ≡ octets_of g.of → e ≡ g
+one_line_and_octets e g told other line octets =
+    let of-is : e.of ≡ g.of = sym (happening_is e.of told) ∙ (λ i. happening_with (line i).kind (line i).number (octets i)) ∙ happening_is g.of other in
     λ i. record { moment = (line i).moment; of = of-is i }
 
 -- the text of an event, and octets behind it
@@ -95,7 +97,7 @@ text_behind : (e : Event) (rest : List ℕ) → event_text e ++ rest ≡ line_te
 text_behind e rest = append_assoc (line_text (line_of e)) (10 ∷ octets_text (kind_of e.of) (octets_of e.of)) rest
 
 event_line : (e : Event) (octets rest : List ℕ) → EventFits e → octets ≡ event_text e ++ rest → HasLine octets (line_of e) (behind_event e rest)
-event_line e octets rest fits so = record { octets_are = so ∙ text_behind e rest; fits = fits }
+event_line e octets rest fits so = record { octets_are = so ∙ text_behind e rest; fits = fits.line }
 
 own_line : (l : EventLine) (octets behind : List ℕ) → HasLine octets l behind → IsEventLine (line_text l) l
 own_line l octets behind has = record { text_is = refl; fits = has.fits }
@@ -137,10 +139,10 @@ one_event e g rest tail a b so = go (has_octets (kind_of e.of)) refl
         let parts =
         as_many (octets_of e.of) (octets_of g.of) rest tail (ap (λ (l : EventLine). l.size) same.0)
         (sym (octets_with (kind_of e.of) (octets_of e.of) rest is) ∙ same.1 ∙ octets_with (kind_of g.of) (octets_of g.of) tail too) in
-        (one_line_and_octets e g same.0 parts.0, parts.1)
+        (one_line_and_octets e g a.told b.told same.0 parts.0, parts.1)
     go false is =
         let too : has_octets (kind_of g.of) ≡ false = sym (ap has_octets kind_is) ∙ is in (
-          one_line_and_octets e g same.0 (octets_none e.of is ∙ sym (octets_none g.of too)),
+          one_line_and_octets e g a.told b.told same.0 (octets_none e.of is ∙ sym (octets_none g.of too)),
           sym (octets_without (kind_of e.of) (octets_of e.of) rest is) ∙ same.1 ∙ octets_without (kind_of g.of) (octets_of g.of) tail too,
         )
 

@@ -4,7 +4,7 @@ use Rattle.std.specs.Fmt.{decimal}
 use Rattle.std.specs.List.{AllByRecursion}
 use Rattle.hc_events.specs.declared.Event.{Event}
 use Rattle.hc_events.specs.declared.Happening.{Happening}
-use Rattle.hc_events.specs.declared.Happening.TheVariants.{ClientOpened, ClientBytes, ClientEnd, OriginBytes, OriginEnd, OriginFailed}
+use Rattle.hc_events.specs.declared.Happening.TheVariants.{ClientOpened, ClientBytes, ClientEnd, OriginBytes, OriginEnd, OriginFailed, Stopping}
 use Rattle.hc_transcript.specs.Limits.{longest_message}
 use Rattle.hc_scripts.specs.declared.event_line.EventLine.{EventLine}
 use Rattle.hc_scripts.specs.declared.kind.EventKind.{EventKind}
@@ -36,7 +36,12 @@ tail_text kind moment size = if has_octets kind then decimal moment ++ 32 ∷ de
 abbrev pub line_text : EventLine → List ℕ
 line_text l = word l.kind ++ 32 ∷ (decimal l.number ++ 32 ∷ tail_text l.kind l.moment l.size)
 
--- what the event tells, the number of its connection or forward, and the octets that it brings
+-- a line of a script tells what happens: of a stop none does
+abbrev pub IsTold : Happening → Type 0
+IsTold Stopping = ⊥
+IsTold other = Unit {0}
+
+-- what the event tells, the number of its connection or forward, and the octets that it brings; of a stop they mean nothing
 abbrev pub kind_of : Happening → EventKind
 kind_of (ClientOpened c) = kind.ClientOpened
 kind_of (ClientBytes c octets) = kind.ClientBytes
@@ -44,6 +49,7 @@ kind_of (ClientEnd c) = kind.ClientEnd
 kind_of (OriginBytes f octets) = kind.OriginBytes
 kind_of (OriginEnd f) = kind.OriginEnd
 kind_of (OriginFailed f) = kind.OriginFailed
+kind_of Stopping = kind.OriginFailed
 
 abbrev pub number_of : Happening → ℕ
 number_of (ClientOpened c) = c
@@ -52,6 +58,7 @@ number_of (ClientEnd c) = c
 number_of (OriginBytes f octets) = f
 number_of (OriginEnd f) = f
 number_of (OriginFailed f) = f
+number_of Stopping = 0
 
 abbrev pub octets_of : Happening → List ℕ
 octets_of (ClientBytes c octets) = octets
@@ -100,8 +107,10 @@ pub record LineFits (l : EventLine) : Type 0 where
   pub moment : l.moment ≤ greatest_count
   pub size : l.size ≤ most_octets l.kind
 
-abbrev pub EventFits : Event → Type 0
-EventFits e = LineFits (line_of e)
+-- a line tells of the event, with numbers in their ranges
+pub record EventFits (e : Event) : Type 0 where
+  pub told : IsTold e.of
+  pub line : LineFits (line_of e)
 
 -- the text is the line of such an event, without its line feed
 pub record IsEventLine (text : List ℕ) (l : EventLine) : Type 0 where

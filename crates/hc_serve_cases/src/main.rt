@@ -7,11 +7,13 @@ mod hearing;
 mod hits;
 mod links;
 mod notebook;
+mod questions;
 mod rooms;
 mod runs;
 mod scene;
 mod service;
 mod staged;
+mod steps;
 mod telling;
 mod verdicts;
 

@@ -2,12 +2,13 @@
 
 ghost use Rattle.std.specs.Prelude.{ℕ};
 
+use crate::questions::{say_clients, say_incidents, say_needed};
 use crate::scene::{core_with, number_of, text_of};
+use crate::steps::{connection_of, happening};
 use crate::telling::word_of;
 use hc_cases::Unanswered;
 use hc_drive::{DriveFault, drive};
 use hc_events::{Event, Happening};
-use hc_fields::Octets;
 use hc_framing::MessageText;
 use hc_link_traits::{Awaiting, Links, Off};
 use hc_machine::{Core, CoreFault};
@@ -15,9 +16,6 @@ use hc_order::{Occurrence, Reason, Receiver};
 use hc_service::CoreOptions;
 use std::alloc::{AllocError, Global};
 use std::hash::BuildHasher;
-
-/// What a client asks.
-const REQUEST: &[u8] = b"GET /a HTTP/1.1\r\nhost: h\r\n\r\n";
 
 /// Hands a new cache with room for so many connections what happens, one step after another, and writes what each comes
 /// to.
@@ -58,8 +56,7 @@ fn say_steps(
     Ok(())
 }
 
-/// Writes whether the step is served, or by which fault it isn't, and whether a request of its connection awaits its
-/// reply then.
+/// Writes what the step comes to, or what the cache answers to its question.
 fn say_step(
     alloc: Global,
     core: &mut Core,
@@ -69,12 +66,33 @@ fn say_step(
     let Some((word, number)) = step.split_once(" ") else {
         return Err(Unanswered::Unknown);
     };
-    let connection = number_of(number.as_bytes())? as u64;
-    let of = happening(alloc, word, connection)?;
-    out.push_str(handed(alloc, core, of))?;
-    if core.awaits(connection) {
-        out.push_str(", awaits")?;
+    let number = number_of(number.as_bytes())? as u64;
+    match word {
+        "whom" => say_clients(core, number, out),
+        "needed" => say_needed(core, number, out),
+        _ => {
+            let of = happening(alloc, word, number)?;
+            say_handed(alloc, core, of, out)
+        }
     }
+}
+
+/// Writes whether what happens is served, or by which fault it isn't; whether a request of its connection awaits its
+/// reply then; and what went wrong.
+fn say_handed(
+    alloc: Global,
+    core: &mut Core,
+    of: Happening,
+    out: &mut String,
+) -> Result<(), Unanswered> {
+    let connection = connection_of(&of);
+    out.push_str(handed(alloc, core, of))?;
+    if let Some(connection) = connection {
+        if core.awaits(connection) {
+            out.push_str(", awaits")?;
+        }
+    }
+    say_incidents(core.incidents(), out)?;
     Ok(())
 }
 
@@ -91,19 +109,6 @@ fn driven<S: BuildHasher, L: Links>(
     links: &mut L,
 ) -> Result<(), DriveFault> {
     drive(alloc, core, links, &mut Off)
-}
-
-/// What happens by that word at the connection.
-fn happening(alloc: Global, word: &str, connection: u64) -> Result<Happening, Unanswered> {
-    match word {
-        "open" => Ok(Happening::ClientOpened(connection)),
-        "get" => {
-            let octets = Octets::from_slice(alloc, REQUEST)?;
-            Ok(Happening::ClientBytes(connection, octets))
-        }
-        "end" => Ok(Happening::ClientEnd(connection)),
-        _ => Err(Unanswered::Unknown),
-    }
 }
 
 /// Links at which one thing happens, whatever the cache awaits. What is sent to them is lost.

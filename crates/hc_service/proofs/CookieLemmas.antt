@@ -40,7 +40,7 @@ use Rattle.hc_service.specs.Replying.{Wanted, entry_reply}
 use Rattle.hc_service.specs.Runs.{StepResult, Steps}
 use Rattle.hc_service.specs.Serving.{has_still}
 use Rattle.hc_service.specs.Serves.{Run, Serves, Takes, Turn, passed_to}
-use Rattle.hc_service.specs.Serves.Turn.{Answering, Asking, ClientSending, Closing, Dropping, Failing, Leaving, Opening, OriginSending, Refusal, Releasing}
+use Rattle.hc_service.specs.Serves.Turn.{Answering, Asking, ClientSending, Closing, Dropping, Failing, Leaving, Opening, OriginSending, Refusal, Releasing, Stopping}
 use Rattle.hc_service.specs.State.{OpenNow, State, new_state_with, open_now}
 use Rattle.hc_service.specs.Turns.{EndsByFailure, EndsByResponse, answered_now, failed_now, whole_request}
 use Rattle.hc_service.proofs.LeftLemmas.{steps_keep}
@@ -207,6 +207,7 @@ turn_none settings (Failing f how) s actions s' t h = by_purpose t.awaited.forwa
     by_purpose purpose.Background d = same_none s.store s'.store d.0 h
     by_purpose (purpose.Reply e why kind) d = fails_none _ t.awaited.forward.target why s.store d.outcome s'.store d.decided h
 turn_none settings (Releasing k) s actions s' t h = found_none t.exchange.target t.exchange.request.fields s.store t.chosen s'.store t.finds h
+turn_none settings Stopping s actions s' t h = same_none s.store s'.store t.keeps.store h
 
 run_none : (settings : CoreSettings) (turns : List Turn) (s : State) (actions : List Action) (s' : State) → Run settings turns s actions s'
     → HoldsNoCookie s.store → HoldsNoCookie s'.store

@@ -7,7 +7,7 @@ use Rattle.std.proofs.lemmas.Bool.{cases_Bool, cases_eq, ltb-false}
 use Rattle.hc_transcript.specs.Limits.{greatest_number, greatest_moment}
 use Rattle.hc_events.specs.declared.Event.{Event}
 use Rattle.hc_events.specs.declared.Happening.{Happening}
-use Rattle.hc_events.specs.declared.Happening.TheVariants.{ClientOpened, ClientBytes, ClientEnd, OriginBytes, OriginEnd, OriginFailed}
+use Rattle.hc_events.specs.declared.Happening.TheVariants.{ClientOpened, ClientBytes, ClientEnd, OriginBytes, OriginEnd, OriginFailed, Stopping as ToStop}
 use Rattle.hc_service.specs.declared.action.Action.{Action}
 use Rattle.hc_service.specs.declared.fault.StepFault.TheVariants.{MomentTooLarge, UnknownNumber, TooManyConnections}
 use Rattle.hc_service.specs.declared.open.OpenExchange.{OpenExchange}
@@ -22,7 +22,7 @@ use Rattle.hc_service.specs.Joining.{waiting_for}
 use Rattle.hc_service.specs.Turns.{after_client_octets, after_origin_octets, after_leaving, OriginSends, Failure}
 use Rattle.hc_service.specs.Turns.Failure.{IsBroken, IsCutOff, IsLost}
 use Rattle.hc_service.specs.Serves.{Turn, Takes, Run, Reads, ReadsOn, ReadsOnAll, clients_of, connections_of, listed, IsQuietAt, IsQuietBy, AwaitsStill, OwesEnd, OwesReply, OwesAnswer, Owes, passed_to, is_known, is_full, first_fault, Serves}
-use Rattle.hc_service.specs.Serves.Turn.{Opening, ClientSending, Asking, Refusal, Dropping, Leaving, Closing, OriginSending, Answering, Failing, Releasing}
+use Rattle.hc_service.specs.Serves.Turn.{Opening, ClientSending, Asking, Refusal, Dropping, Leaving, Closing, OriginSending, Answering, Failing, Releasing, Stopping}
 use Rattle.hc_service.specs.Agreement.{History, AreCounted, KeepsPurpose, IsConsistent, IsQuiet, IsAwaiting, Agrees, HasExchange, IsReady}
 use Rattle.hc_service.specs.Runs.{client_octets_by, client_octets_with, origin_octets_by, origin_octets_with}
 use Rattle.hc_service.specs.LowerLaws.{ForwardLaws}
@@ -86,6 +86,7 @@ readings_bring c (OriginSending f octets ∷ turns) reads = absurd reads.0
 readings_bring c (Answering f ended ∷ turns) reads = absurd reads.0
 readings_bring c (Failing f how ∷ turns) reads = absurd reads.0
 readings_bring c (Releasing e ∷ turns) reads = absurd reads.0
+readings_bring c (Stopping ∷ turns) reads = absurd reads.0
 
 both_bring : (turns more : List Turn) → BringNothing turns → BringNothing more → BringNothing (turns ++ more)
 both_bring turns more one other = (
@@ -150,6 +151,7 @@ event_brings (OriginBytes f octets) turns s s' owes =
 event_brings (OriginEnd f) turns s s' (inl owes) = let none = answer_brings f true turns s s' owes in record { client_octets = none.0; origin_octets = none.1 }
 event_brings (OriginEnd f) turns s s' (inr owes) = let none = failure_brings f IsCutOff turns s s' owes in record { client_octets = none.0; origin_octets = none.1 }
 event_brings (OriginFailed f) turns s s' owes = let none = failure_brings f IsLost turns s s' owes in record { client_octets = none.0; origin_octets = none.1 }
+event_brings ToStop turns s s' owes = subst (BringThat ToStop) (sym owes) (record { client_octets = λ before. refl; origin_octets = λ before. refl })
 
 -- ---- nothing is left unread
 
@@ -177,6 +179,15 @@ quiet_out c s s' same q is = absurd (none_some (get (remove s.connections c) c) 
 quiet_at : (c : ℕ) (s s' : State) → KeepsOthers (c ∷ []) s s' → IsQuiet s → IsQuietAt c s' → IsQuiet s'
 quiet_at c s s' keeps quiet there =
     quiet_by (c ∷ []) s s' keeps quiet (λ d is. ⊎_elim (λ (same : c ≡ d). subst (λ (n : ℕ). IsQuietAt n s') same there) (λ (none : ⊥). absurd none) is)
+
+-- whoever serves the cache stops
+stopped_read : (settings : CoreSettings) (turns : List Turn) (s : State) (actions : List Action) (s' : State) → turns ≡ Stopping ∷ [] → Run settings turns s actions s'
+    → IsQuiet s → IsAwaiting s → IsRead s'
+stopped_read settings turns s actions s' is r quiet awaiting =
+    let t = (one_turn settings Stopping turns s actions s' is r).1 in (
+      λ c k there. quiet c k (sym (ap (λ (t : Table Connection). get t c) t.keeps.connections) ∙ there),
+      awaiting_by s s' (forwards_same s s' t.keeps.forwards) awaiting,
+    )
 
 -- a connection opens
 opened_read : (settings : CoreSettings) (c : ℕ) (turns : List Turn) (s : State) (actions : List Action) (s' : State) → turns ≡ Opening c ∷ [] → Run settings turns s actions s'
@@ -300,6 +311,7 @@ event_read settings moment (OriginEnd f) turns s actions s' (inr owes) r quiet a
     failed_read settings f IsCutOff turns (passed_to moment s) actions s' owes r quiet (λ g other. awaiting g)
 event_read settings moment (OriginFailed f) turns s actions s' owes r quiet awaiting =
     failed_read settings f IsLost turns (passed_to moment s) actions s' owes r quiet (λ g other. awaiting g)
+event_read settings moment ToStop turns s actions s' owes r quiet awaiting = stopped_read settings turns (passed_to moment s) actions s' owes r quiet awaiting
 
 -- ---- all
 

@@ -28,7 +28,7 @@ use Rattle.hc_service.specs.Answers.{Outcome}
 use Rattle.hc_service.specs.Answers.Outcome.{Replies, GoesAnew}
 use Rattle.hc_service.specs.Turns.{Asker, Asks, DoesOutcome, DoesReaction, DoesRelease, Ended, EndsByFailure, EndsByResponse, answered_now, arrived_on, asker_now, failed_now, opened, released, whole_request}
 use Rattle.hc_service.specs.Serves.{Turn, Takes, Run, Serves, passed_to}
-use Rattle.hc_service.specs.Serves.Turn.{Opening, ClientSending, Asking, Refusal, Dropping, Leaving, Closing, OriginSending, Answering, Failing, Releasing}
+use Rattle.hc_service.specs.Serves.Turn.{Opening, ClientSending, Asking, Refusal, Dropping, Leaving, Closing, OriginSending, Answering, Failing, Releasing, Stopping}
 use Rattle.hc_service.proofs.LeftLemmas.{joins_it, steps_keep}
 use Rattle.hc_service.proofs.RunLemmas.{runs_steps}
 use Rattle.hc_service.proofs.TableLemmas.{get_gone, get_out, get_put}
@@ -185,6 +185,7 @@ turn_few settings (Releasing k) s actions s' t few = by_choice (shared s.numbers
     by_choice : (o : Option Stored) → DoesRelease o k (asker_now settings s t.exchange t.connection) s actions s' → FewWait s'
     by_choice (Some stored) d = few_less k t.exchange s s' d.exchanges few
     by_choice None d = few_alone k (released t.exchange) s s' d.exchanges refl few
+turn_few settings Stopping s actions s' t few = few_same s s' t.keeps.exchanges few
 
 run_few : (settings : CoreSettings) (turns : List Turn) (s : State) (actions : List Action) (s' : State) → Run settings turns s actions s' → FewWait s → FewWait s'
 run_few settings [] s actions s' r few = subst FewWait (sym r.1) few

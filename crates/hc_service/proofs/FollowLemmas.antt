@@ -8,7 +8,7 @@ use Rattle.std.specs.List.{AllByRecursion}
 use Rattle.std.proofs.lemmas.Bool.{cases_eq, eq-eqb, ne_eqb}
 use Rattle.hc_events.specs.declared.Event.{Event}
 use Rattle.hc_events.specs.declared.Happening.{Happening}
-use Rattle.hc_events.specs.declared.Happening.TheVariants.{ClientOpened, ClientBytes, ClientEnd, OriginBytes, OriginEnd, OriginFailed}
+use Rattle.hc_events.specs.declared.Happening.TheVariants.{ClientOpened, ClientBytes, ClientEnd, OriginBytes, OriginEnd, OriginFailed, Stopping as ToStop}
 use Rattle.hc_service.specs.declared.action.Action.{Action}
 use Rattle.hc_service.specs.declared.action.Action.TheVariants as action
 use Rattle.hc_service.specs.declared.numbers.Numbers.{Numbers}
@@ -28,7 +28,7 @@ use Rattle.hc_service.specs.Answers.Outcome.{Replies, GoesAnew}
 use Rattle.hc_service.specs.Turns.{Answers, Asker, Asks, Breaks, DoesOutcome, DoesReaction, DoesRelease, Ended, EndsByFailure, EndsByResponse, EndsBehind, Failure, KeepsAllButConnections, Opens, Releases, after_reply, answered_now, arrived_on, asker_now, failed_now, is_closed, replied, sent_forward, whole_request}
 use Rattle.hc_service.specs.Turns.Failure.{IsBroken, IsCutOff, IsLost}
 use Rattle.hc_service.specs.Serves.{Turn, Takes, Run, Reads, ReadsOnAll, OwesAnswer, OwesEnd, OwesReply, Owes, Serves, clients_of, passed_to}
-use Rattle.hc_service.specs.Serves.Turn.{Opening, ClientSending, Asking, Refusal, Dropping, Leaving, Closing, OriginSending, Answering, Failing, Releasing}
+use Rattle.hc_service.specs.Serves.Turn.{Opening, ClientSending, Asking, Refusal, Dropping, Leaving, Closing, OriginSending, Answering, Failing, Releasing, Stopping}
 use Rattle.hc_service.specs.Follows.{connection_after, forward_after, closes_in, opened_by, lost_by, one_opened, last_by, Follows}
 use Rattle.hc_service.proofs.LinkLemmas.{none_some}
 use Rattle.hc_service.proofs.TableLemmas.{get_put, get_out, get_none, len_new, len_old}
@@ -334,6 +334,8 @@ turn_goes settings (Failing f IsBroken) s actions s' is t = failing_goes setting
 turn_goes settings (Failing f IsCutOff) s actions s' is t = failing_goes settings f IsCutOff s actions s' t
 turn_goes settings (Failing f IsLost) s actions s' is t = absurd is
 turn_goes settings (Releasing e) s actions s' is t = releasing_goes settings e s actions s' t
+turn_goes settings Stopping s actions s' is t =
+    of_parts plain s s' actions [] s.connections s.forwards t.actions_are t.keeps.connections t.keeps.forwards (stays s.numbers _ _ t.numbers refl refl) (at_same s.connections) (λ f. refl)
 
 run_goes : (settings : CoreSettings) (turns : List Turn) (s : State) (actions : List Action) (s' : State) → AllByRecursion IsPlain turns → Run settings turns s actions s' → Goes plain s actions s'
 run_goes settings [] s actions s' are r = subst (λ (a : List Action). Goes plain s a s') (sym r.0) (subst (λ (t : State). Goes plain s [] t) (sym r.1) (goes_nowhere s))
@@ -355,6 +357,7 @@ plain_reading c (OriginSending f octets) is = absurd is
 plain_reading c (Answering f ended) is = absurd is
 plain_reading c (Failing f how) is = absurd is
 plain_reading c (Releasing e) is = absurd is
+plain_reading c Stopping is = absurd is
 
 plain_readings : (c : ℕ) (turns : List Turn) → AllByRecursion (Reads c) turns → AllByRecursion IsPlain turns
 plain_readings c [] are = tt
@@ -442,6 +445,9 @@ owed_follows settings moment (OriginFailed f) turns s actions s' owes new run =
     (subst (λ (a : List Action). Goes (without f) (passed_to moment s) a s') (sym r.4)
     (goes_then (without f) (passed_to moment s) r.0 s' r.1 r.2 (failing_goes settings f IsLost (passed_to moment s) r.1 r.0 r.3)
     (run_goes settings _ r.0 r.2 s' (plain_behind _ (clients_of f s) owes.0 s' owes.2) r.5)))
+owed_follows settings moment ToStop turns s actions s' owes new run =
+    of_goes ToStop moment s actions s' (λ d was. refl) refl refl
+    (run_goes settings turns (passed_to moment s) actions s' (subst (AllByRecursion IsPlain) (sym owes) (tt, tt)) run)
 
 pub event_follows : (settings : CoreSettings) (event : Event) (s : State) (actions : List Action) (s' : State) → ((c : ℕ) → event.of ≡ ClientOpened c → get s.connections c ≡ None)
     → Serves settings event s actions s' → Follows event.of s actions s'

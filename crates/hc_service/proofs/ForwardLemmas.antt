@@ -15,7 +15,7 @@ use Rattle.hc_transcript.specs.declared.record.Record.{Record}
 use Rattle.hc_transcript.specs.Limits.{greatest_number}
 use Rattle.hc_events.specs.declared.Event.{Event}
 use Rattle.hc_events.specs.declared.Happening.{Happening}
-use Rattle.hc_events.specs.declared.Happening.TheVariants.{ClientOpened, ClientBytes, ClientEnd, OriginBytes, OriginEnd, OriginFailed}
+use Rattle.hc_events.specs.declared.Happening.TheVariants.{ClientOpened, ClientBytes, ClientEnd, OriginBytes, OriginEnd, OriginFailed, Stopping as ToStop}
 use Rattle.hc_service.specs.declared.action.Action.{Action}
 use Rattle.hc_service.specs.declared.cases.Cause.TheVariants.{UriMiss}
 use Rattle.hc_service.specs.declared.fault.StepFault.TheVariants.{Memory, MomentTooLarge, UnknownNumber, TooManyConnections, Failed}
@@ -26,7 +26,7 @@ use Rattle.hc_service.specs.declared.open.Purpose.{Purpose}
 use Rattle.hc_service.specs.declared.open.Purpose.TheVariants as purpose
 use Rattle.hc_service.specs.declared.settings.CoreSettings.{CoreSettings}
 use Rattle.hc_service.specs.declared.settings.CoreOptions.{CoreOptions}
-use Rattle.hc_service.specs.Numbers.{after_opening, asked, noted, one_more, sent}
+use Rattle.hc_service.specs.Numbers.{after_opening, asked, noted, one_more, sent, stopping}
 use Rattle.hc_service.specs.State.{State, Table, Awaited, exchange_for, new_state_with, open_now}
 use Rattle.hc_service.specs.Joining.{AllHaveForwards, HasForward, HasOwnForward, LeavesNobody, WaitsUntilEnd, shared, waiting_for, waits_for}
 use Rattle.hc_service.specs.Reactions.{Reaction, forward_alone, forward_anew}
@@ -38,7 +38,7 @@ use Rattle.hc_service.specs.Answers.Outcome.{Replies, GoesAnew}
 use Rattle.hc_service.specs.Turns.{Answers, Asker, Asks, Breaks, DoesOutcome, DoesReaction, DoesRelease, Ended, EndsBehind, EndsByFailure, EndsByResponse, Failure, OriginSends, Releases, after_origin_octets, answered_now, arrived_on, asker_now, failed_now, opened, released, sent_forward, whole_request}
 use Rattle.hc_service.specs.Turns.Failure.{IsBroken, IsCutOff, IsLost}
 use Rattle.hc_service.specs.Serves.{Turn, Takes, Run, Reads, ReadsOnAll, OwesAnswer, OwesEnd, OwesReply, Owes, Serves, clients_of, passed_to}
-use Rattle.hc_service.specs.Serves.Turn.{Opening, ClientSending, Asking, Refusal, Dropping, Leaving, Closing, OriginSending, Answering, Failing, Releasing}
+use Rattle.hc_service.specs.Serves.Turn.{Opening, ClientSending, Asking, Refusal, Dropping, Leaving, Closing, OriginSending, Answering, Failing, Releasing, Stopping}
 use Rattle.hc_service.proofs.LinkLemmas.{none_some, one_of}
 use Rattle.hc_service.proofs.QuietLemmas.{IsAmong, one_among, run_split}
 use Rattle.hc_service.proofs.LeftLemmas.{joins_it, passed_owes, waits_among}
@@ -151,6 +151,9 @@ module _ (n : Numbers) (o : InOrder n) where
 
   given_opened : (c : ℕ) → n.records ≤ greatest_number → Given 0 0 n (after_opening c n)
   given_opened c le = record { exchange = omega arith; forward = omega arith; order = record { exchanges = o.exchanges; forwards = o.forwards; few = o.few } }
+
+  given_stopping : n.records ≤ greatest_number → Given 0 0 n (stopping n)
+  given_stopping le = record { exchange = omega arith; forward = omega arith; order = record { exchanges = o.exchanges; forwards = o.forwards; few = o.few } }
 
   given_asked : one_more n.records ≤ greatest_number → Given 1 0 n (asked n)
   given_asked le = record { exchange = omega arith; forward = omega arith; order = record { exchanges = omega arith; forwards = omega arith; few = le } }
@@ -388,6 +391,7 @@ reading_passes settings c (OriginSending f octets) s actions s' numbered le is t
 reading_passes settings c (Answering f ended) s actions s' numbered le is t = absurd is
 reading_passes settings c (Failing f how) s actions s' numbered le is t = absurd is
 reading_passes settings c (Releasing e) s actions s' numbered le is t = absurd is
+reading_passes settings c Stopping s actions s' numbered le is t = absurd is
 
 -- ---- turns, one after another: the count of records at the end bounds those before
 
@@ -872,6 +876,11 @@ module _ (settings : CoreSettings) where
       ended_leads f (Failing f IsCutOff) (clients_of f s) turns owes.0 s actions s' s' held le (failing_it f IsCutOff s held.numbered) owes.1 owes.2 run
   owed_leads (OriginFailed f) turns s actions s' held le owes run =
       ended_leads f (Failing f IsLost) (clients_of f s) turns owes.0 s actions s' s' held le (failing_it f IsLost s held.numbered) owes.1 owes.2 run
+  owed_leads ToStop turns s actions s' held le owes run =
+      alone_leads Stopping turns s actions s' held owes
+      (λ first t.
+      passes_same s s' t.keeps.exchanges
+      (onward_same s s' held.numbered 0 (given_at 0 0 s.numbers s'.numbers (stopping s.numbers) t.numbers (given_stopping s.numbers held.numbered.order) le) t.keeps.forwards)) run
 
   -- the moment is nothing to it
   passed_holds : (moment : ℕ) (s : State) → Holds s → Holds (passed_to moment s)

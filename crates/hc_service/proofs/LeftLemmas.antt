@@ -11,7 +11,7 @@ use Rattle.hc_update.specs.declared.stored.Stored.{Stored}
 use Rattle.hc_store.specs.Entries.{Holdings}
 use Rattle.hc_events.specs.declared.Event.{Event}
 use Rattle.hc_events.specs.declared.Happening.{Happening}
-use Rattle.hc_events.specs.declared.Happening.TheVariants.{ClientOpened, ClientBytes, ClientEnd, OriginBytes, OriginEnd, OriginFailed}
+use Rattle.hc_events.specs.declared.Happening.TheVariants.{ClientOpened, ClientBytes, ClientEnd, OriginBytes, OriginEnd, OriginFailed, Stopping as ToStop}
 use Rattle.hc_service.specs.declared.action.Action.{Action}
 use Rattle.hc_service.specs.declared.cases.Cause.{Cause}
 use Rattle.hc_service.specs.declared.cases.Cause.TheVariants.{UriMiss}
@@ -35,7 +35,7 @@ use Rattle.hc_service.specs.Answers.Outcome.{Replies, GoesAnew}
 use Rattle.hc_service.specs.Turns.{Answers, Asker, Asks, Breaks, DoesOutcome, DoesReaction, DoesRelease, Ended, EndsByFailure, EndsByResponse, Failure, OriginSends, Releases, after_origin_octets, answered_now, arrived_on, asker_now, failed_now, opened, released, sent_forward, whole_request}
 use Rattle.hc_service.specs.Turns.Failure.{IsBroken, IsCutOff, IsLost}
 use Rattle.hc_service.specs.Serves.{Turn, Takes, Run, Reads, ReadsOnAll, OwesAnswer, OwesEnd, OwesReply, Owes, Serves, clients_of, passed_to}
-use Rattle.hc_service.specs.Serves.Turn.{Opening, ClientSending, Asking, Refusal, Dropping, Leaving, Closing, OriginSending, Answering, Failing, Releasing}
+use Rattle.hc_service.specs.Serves.Turn.{Opening, ClientSending, Asking, Refusal, Dropping, Leaving, Closing, OriginSending, Answering, Failing, Releasing, Stopping}
 use Rattle.hc_service.proofs.LinkLemmas.{none_some, one_of}
 use Rattle.hc_service.proofs.QuietLemmas.{IsAmong, run_split}
 use Rattle.hc_service.proofs.TableLemmas.{equal_of, get_left, get_none, get_other, get_same, was_left, was_put}
@@ -213,6 +213,7 @@ reading_waits settings c (OriginSending f octets) s actions s' is t waits = absu
 reading_waits settings c (Answering f ended) s actions s' is t waits = absurd is
 reading_waits settings c (Failing f how) s actions s' is t waits = absurd is
 reading_waits settings c (Releasing e) s actions s' is t waits = absurd is
+reading_waits settings c Stopping s actions s' is t waits = absurd is
 
 readings_wait : (settings : CoreSettings) (c : ℕ) (turns : List Turn) (s : State) (actions : List Action) (s' : State) → AllByRecursion (Reads c) turns → Run settings turns s actions s'
     → WaitForOpen s → WaitForOpen s'
@@ -379,6 +380,8 @@ owed_waits settings (OriginEnd f) turns s actions s' (inr owes) run waits =
     ended_waits settings f (Failing f IsCutOff) (clients_of f s) turns owes.0 s actions s' s' (λ first mid t. failing_ends settings f IsCutOff s first mid t) owes.1 owes.2 run waits
 owed_waits settings (OriginFailed f) turns s actions s' owes run waits =
     ended_waits settings f (Failing f IsLost) (clients_of f s) turns owes.0 s actions s' s' (λ first mid t. failing_ends settings f IsLost s first mid t) owes.1 owes.2 run waits
+owed_waits settings ToStop turns s actions s' owes run waits =
+    alone_waits settings Stopping turns s actions s' owes (λ first mid t. (wait_same s mid t.keeps.exchanges, none_same s mid t.keeps.forwards)) run waits
 
 -- the moment is nothing to what an event owes
 pub passed_owes : (moment : ℕ) (happening : Happening) (turns : List Turn) (s s' : State) → Owes happening turns s s' → Owes happening turns (passed_to moment s) s'
@@ -388,6 +391,7 @@ passed_owes moment (ClientEnd c) turns s s' owes = owes
 passed_owes moment (OriginBytes f octets) turns s s' owes = owes
 passed_owes moment (OriginEnd f) turns s s' owes = owes
 passed_owes moment (OriginFailed f) turns s s' owes = owes
+passed_owes moment ToStop turns s s' owes = owes
 
 pub event_waits : (settings : CoreSettings) (event : Event) (s : State) (actions : List Action) (s' : State) → WaitForOpen s → Serves settings event s actions s' → WaitForOpen s'
 event_waits settings event s actions s' waits v =

@@ -26,3 +26,4 @@ pub mod FewLemmas
 pub mod CookieLemmas
 pub mod ForwardLemmas
 pub mod FollowLemmas
+pub mod StoppingLemmas

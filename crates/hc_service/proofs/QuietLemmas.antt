@@ -27,7 +27,7 @@ use Rattle.hc_service.specs.Answers.{Outcome}
 use Rattle.hc_service.specs.Answers.Outcome.{Replies, GoesAnew}
 use Rattle.hc_service.specs.Turns.{after_leaving, after_reply, after_request, sent_forward, replied, wanted_now, Asks, Asker, Ended, DoesReaction, DoesRelease, Releases, released, EndsBehind, Answers, Breaks, DoesOutcome, EndsByResponse, EndsByFailure, Failure, answered_now, arrived_on, asker_now, failed_now, is_closed, whole_request}
 use Rattle.hc_service.specs.Serves.{Turn, Takes, Run, Reads, ReadsOnAll, answered_by, clients_of, connections_of, listed, IsQuietAt, AwaitsStill}
-use Rattle.hc_service.specs.Serves.Turn.{Opening, ClientSending, Asking, Refusal, Dropping, Leaving, Closing, OriginSending, Answering, Failing, Releasing}
+use Rattle.hc_service.specs.Serves.Turn.{Opening, ClientSending, Asking, Refusal, Dropping, Leaving, Closing, OriginSending, Answering, Failing, Releasing, Stopping}
 use Rattle.hc_service.specs.Agreement.{IsQuiet, IsAwaiting}
 use Rattle.hc_service.proofs.TableLemmas.{get_other, get_left, was_put, was_left}
 
@@ -167,6 +167,7 @@ reading_keeps settings c (OriginSending f octets) s actions s' is t = absurd is
 reading_keeps settings c (Answering f ended) s actions s' is t = absurd is
 reading_keeps settings c (Failing f how) s actions s' is t = absurd is
 reading_keeps settings c (Releasing e) s actions s' is t = absurd is
+reading_keeps settings c Stopping s actions s' is t = absurd is
 
 same_state : (clients : List ℕ) (s s' : State) → s' ≡ s → KeepsRest clients s s'
 same_state clients s s' same = (others_same clients s s' (ap (λ (s : State). s.connections) same), forwards_same s s' (ap (λ (s : State). s.forwards) same))

@@ -31,7 +31,7 @@ use Rattle.hc_service.specs.Turns.{Asker, Ended, DoesReaction, DoesOutcome, Ends
 use Rattle.hc_service.specs.Serves.{Turn, Takes, Run, Serves, passed_to}
 use Rattle.hc_service.specs.Joining.{shared}
 use Rattle.hc_update.specs.declared.stored.Stored.{Stored}
-use Rattle.hc_service.specs.Serves.Turn.{Opening, ClientSending, Asking, Refusal, Dropping, Leaving, Closing, OriginSending, Answering, Failing, Releasing}
+use Rattle.hc_service.specs.Serves.Turn.{Opening, ClientSending, Asking, Refusal, Dropping, Leaving, Closing, OriginSending, Answering, Failing, Releasing, Stopping}
 use Rattle.hc_service.specs.Agreement.{History, Agrees, IsReady}
 use Rattle.hc_service.specs.Runs.{Records, AllRightBehind, behind, strict, nothing_yet, StepResult, Runs, RunsOn, RunsTo, Steps, records_given, GoesOnWith, EndAgrees, IsJudgedRight}
 use Rattle.hc_service.specs.LowerLaws.{ForwardLaws}
@@ -157,6 +157,7 @@ turn_counts settings (Releasing e) s actions s' t = by_choice (shared s.numbers.
         (count_of actions _ d.actions_are ∙ count_reply e s.numbers.moment (is_head t.exchange.request.method) t.exchange.connection wanted.closes (collapsed_reply wanted stored))
         (records_in s'.numbers _ d.numbers)
     by_choice None d = counts_one s.numbers s'.numbers actions (count_of actions _ d.actions_are) (records_in s'.numbers _ d.numbers)
+turn_counts settings Stopping s actions s' t = counts_none s.numbers s'.numbers actions (count_of actions [] t.actions_are) (records_in s'.numbers _ t.numbers)
 
 run_counts : (settings : CoreSettings) (turns : List Turn) (s : State) (actions : List Action) (s' : State) → Run settings turns s actions s' → Counts s.numbers s'.numbers actions
 run_counts settings [] s actions s' r = counts_none s.numbers s'.numbers actions (count_of actions [] r.0) (ap (λ (s : State). s.numbers.records) r.1)

@@ -22,7 +22,7 @@ use Rattle.hc_service.specs.Answers.{Outcome}
 use Rattle.hc_service.specs.Answers.Outcome.{Replies, GoesAnew}
 use Rattle.hc_service.specs.Turns.{Asker, Ended, DoesReaction, DoesRelease, DoesOutcome, EndsByResponse, EndsByFailure, answered_now, arrived_on, asker_now, failed_now, is_closed, whole_request}
 use Rattle.hc_service.specs.Serves.{Turn, Takes, Run}
-use Rattle.hc_service.specs.Serves.Turn.{Opening, ClientSending, Asking, Refusal, Dropping, Leaving, Closing, OriginSending, Answering, Failing, Releasing}
+use Rattle.hc_service.specs.Serves.Turn.{Opening, ClientSending, Asking, Refusal, Dropping, Leaving, Closing, OriginSending, Answering, Failing, Releasing, Stopping}
 use Rattle.hc_service.specs.Agreement.{History, IsConsistent}
 use Rattle.hc_service.specs.Runs.{Records, AllRightBehind, behind, strict}
 use Rattle.hc_service.specs.LowerLaws.{ForwardLaws}
@@ -90,6 +90,7 @@ turn_rises settings (Releasing e) s actions s' le t = by_choice (shared s.number
     by_choice : (o : Option Stored) → DoesRelease o e (asker_now settings s t.exchange t.connection) s actions s' → Rises s.numbers s'.numbers
     by_choice (Some stored) d = one_count s.numbers s'.numbers le (count_of s'.numbers _ d.numbers)
     by_choice None d = one_count s.numbers s'.numbers le (count_of s'.numbers _ d.numbers)
+turn_rises settings Stopping s actions s' le t = same_count s.numbers s'.numbers le (count_of s'.numbers _ t.numbers)
 
 pub run_rises : (settings : CoreSettings) (turns : List Turn) (s : State) (actions : List Action) (s' : State) → s.numbers.records ≤ 18446744073709551615 → Run settings turns s actions s' → Rises s.numbers s'.numbers
 run_rises settings [] s actions s' le r = same_count s.numbers s'.numbers le (ap (λ (s : State). s.numbers.records) r.1)

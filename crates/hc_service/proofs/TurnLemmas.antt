@@ -35,7 +35,7 @@ use Rattle.hc_service.specs.declared.settings.CoreSettings.{CoreSettings}
 use Rattle.hc_service.specs.Settings.{AreGood}
 use Rattle.hc_service.specs.Asking.{ends_connection, is_answered_by_store}
 use Rattle.hc_service.specs.Cases.{asks_store, is_of_stored}
-use Rattle.hc_service.specs.Numbers.{one_more, after_opening, asked, sent, noted, is_later}
+use Rattle.hc_service.specs.Numbers.{one_more, after_opening, asked, sent, noted, stopping, is_later}
 use Rattle.hc_service.specs.State.{State, Table, Connection, Awaited, is_conditional, new_connection, open_now, exchange_for}
 use Rattle.hc_service.specs.Joining.{is_joinable, may_be_shared, shared}
 use Rattle.hc_service.specs.Sending.{recorded_format, request_record, forward_record, response_record, failure_record, reply_record, ask_actions, send_actions, reply_actions, response_actions, failure_actions, records_of}
@@ -45,9 +45,9 @@ use Rattle.std.specs.Prelude.{◌⊎◌, codes}
 use Rattle.hc_service.specs.Answers.{Outcome, Renews, is_news}
 use Rattle.hc_service.specs.Answers.Outcome.{GoesAnew}
 use Rattle.hc_service.specs.Choices.{Finds, Stores}
-use Rattle.hc_service.specs.Turns.{after_client_octets, after_request, after_reply, after_leaving, after_origin_octets, sent_forward, replied, closes_behind, wanted_now, whole_request, Arrived, arrived_on, asker_now, answered_now, failed_now, KeepsAllButConnections, Opens, ClientSends, Drops, Leaves, Closes, Refuses, Asks, RepliesAlone, RepliesAndValidates, GoesForward, Joins, DoesReaction, RepliesShared, GoesAlone, DoesRelease, Releases, released, OriginSends, Answers, Breaks, EndsBehind, EndsWithReply, EndsWithForward, EndsByResponse, EndsByFailure, DoesOutcome, Failure, is_closed}
+use Rattle.hc_service.specs.Turns.{after_client_octets, after_request, after_reply, after_leaving, after_origin_octets, sent_forward, replied, closes_behind, wanted_now, whole_request, Arrived, arrived_on, asker_now, answered_now, failed_now, KeepsAllButConnections, Opens, ClientSends, Drops, Leaves, Closes, Refuses, Asks, RepliesAlone, RepliesAndValidates, GoesForward, Joins, DoesReaction, RepliesShared, GoesAlone, DoesRelease, Releases, released, OriginSends, Answers, Breaks, EndsBehind, EndsWithReply, EndsWithForward, EndsByResponse, EndsByFailure, DoesOutcome, Failure, is_closed, Stops}
 use Rattle.hc_service.specs.Serves.{Turn, Takes}
-use Rattle.hc_service.specs.Serves.Turn.{Opening, ClientSending, Asking, Refusal, Dropping, Leaving, Closing, OriginSending, Answering, Failing, Releasing}
+use Rattle.hc_service.specs.Serves.Turn.{Opening, ClientSending, Asking, Refusal, Dropping, Leaving, Closing, OriginSending, Answering, Failing, Releasing, Stopping}
 use Rattle.hc_service.specs.Agreement.{History, AreCounted, AreReceived, AreAsked, AreLinked, AreWaiting, CanReply, HasSource, IsConsistent, AsksFor, IsFor, KeepsPurpose, IsSeenExchange, seen_forward}
 use Rattle.hc_service.specs.Runs.{Records, behind, client_octets_with, origin_octets_with, strict, with_octets}
 use Rattle.hc_service.specs.LowerLaws.{ForwardLaws}
@@ -115,6 +115,19 @@ counted_opened c n h a = record {
   in_time = a.in_time;
 }
 
+counted_stopping : (n : Numbers) (h : History) → AreCounted n h → AreCounted (stopping n) h
+counted_stopping n h a = record {
+  are_read = a.are_read;
+  records = a.records;
+  exchange = a.exchange;
+  forward = a.forward;
+  moment = a.moment;
+  exchanges = a.exchanges;
+  forwards = a.forwards;
+  in_range = a.in_range;
+  in_time = a.in_time;
+}
+
 -- what came doesn't matter to what is counted
 counted_received : (n : Numbers) (h : History) (client_octets origin_octets : ℕ → List ℕ) → AreCounted n h → AreCounted n (record { records = h.records; items = h.items; client_octets = client_octets; origin_octets = origin_octets })
 counted_received n h client_octets origin_octets a = record {
@@ -142,6 +155,17 @@ module _ (s : State) (h : History) (a : IsConsistent s h) where
   len_replied : (closes : Bool) (c : ℕ) (unread : List ℕ) (k q : Connection) → get s.connections c ≡ Some q → len (replied closes c unread k s.connections) ≤ s.numbers.room
   len_replied true c unread k q is = len_fewer c
   len_replied false c unread k q is = len_kept c q (after_reply unread k) is
+
+  -- ---- the cache as a whole
+
+  pub stopped : (actions : List Action) (s' : State) → Stops s actions s' → KeepsOn Stopping actions h s'
+  stopped actions s' t =
+      record {
+        later = h;
+        goes_on = record { records = none_given actions [] h t.actions_are refl; client_octets = refl; origin_octets = refl };
+        consistent = of_parts s' h a.since (stopping s.numbers) s.connections s.exchanges s.forwards s.store t.numbers t.keeps.connections t.keeps.exchanges t.keeps.forwards t.keeps.store
+            (counted_stopping s.numbers h a.counted) (sound_of s h a) a.received a.asked a.linked a.waiting a.few;
+      }
 
   -- ---- connections
 
@@ -707,9 +731,10 @@ module _ (s : State) (h : History) (a : IsConsistent s h) where
             false_true : false ≡ true → ⊥
             false_true e = cc
 
-    second_false : (x y : Bool) → (x || y) ≡ false → y ≡ false
-    second_false true y is = absurd (cc)
-    second_false false y is = is
+    second_false : (x y z : Bool) → (x || (y || z)) ≡ false → y ≡ false
+    second_false true y z is = absurd (cc)
+    second_false false true z is = is
+    second_false false false z is = refl
 
     -- what the exchange that it is for wants
     module _ (f : ℕ) (w : Awaited) (is_open : get s.forwards f ≡ Some w) (e : ℕ) (why : Cause) (kind : ForwardKind) (is_for : w.forward.purpose ≡ purpose.Reply e why kind)
@@ -741,8 +766,8 @@ module _ (s : State) (h : History) (a : IsConsistent s h) where
       its_cause : cause_of f h.items ≡ Some e
       its_cause = a.asked.causes f w is_open ∙ its_number
 
-      it_stays : closes_behind x0.request k ≡ false → k.leaves ≡ false
-      it_stays is = second_false (ends_connection x0.request) k.leaves is
+      it_stays : closes_behind x0.request k s.numbers ≡ false → k.leaves ≡ false
+      it_stays is = second_false (ends_connection x0.request) k.leaves s.numbers.closing is
 
     pub answering : (f : ℕ) (ended : Bool) (actions : List Action) (s' : State) → Answers settings f ended s actions s' → s'.numbers.records ≤ greatest_number → KeepsOn (Answering f ended) actions h s'
     answering f ended actions s' t le =
@@ -907,7 +932,7 @@ module _ (s : State) (h : History) (a : IsConsistent s h) where
                 t.numbers t.connections t.exchanges t.forwards refl
                 (reply_counted n h a.counted first e x reply (numbered e x0 awaits).0 (numbered e x0 awaits).1 seen.1 fit.writable fit.digits)
                 (still_sound a.since h.items (ClientReply e n.moment reply) s'.store refl sound)
-                (received_shared wanted.closes (λ is. second_false (ends_connection x0.request) k.leaves is))
+                (received_shared wanted.closes (λ is. second_false (ends_connection x0.request) k.leaves s.numbers.closing is))
                 (asked_shared n.exchange n.forward s.exchanges s.forwards h.items a.asked e none_is_for n.moment reply)
                 (linked_answered n.connection s.connections s.exchanges a.linked e x0 k awaits on wanted.closes k.unread)
                 (waiting_item a.since (remove s.exchanges e) s.forwards h.items (waiting_answered a.since s.exchanges s.forwards h.items a.waiting e) (ClientReply e n.moment reply) (get_gone s.exchanges e))
@@ -1013,3 +1038,4 @@ module _ (s : State) (h : History) (a : IsConsistent s h) where
     turn_keeps (Answering f ended) actions s' t le = answering f ended actions s' t le
     turn_keeps (Failing f how) actions s' t le = failing f how actions s' t le
     turn_keeps (Releasing e) actions s' t le = releasing e actions s' t le
+    turn_keeps Stopping actions s' t le = stopped actions s' t

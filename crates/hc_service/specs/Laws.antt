@@ -22,6 +22,7 @@ use Rattle.hc_service.specs.declared.open.OpenForward.{OpenForward}
 use Rattle.hc_events.specs.declared.Happening.{Happening}
 use Rattle.hc_service.specs.Agreement.{Agrees, HasSource, History, IsConsistent}
 use Rattle.hc_service.specs.declared.action.Action.{Action}
+use Rattle.hc_service.specs.declared.action.Action.TheVariants as action
 use Rattle.hc_service.specs.Runs.{GoesOn, GoesOnBy, Records, client_octets_with, origin_octets_with}
 use Rattle.hc_service.specs.Serves.{Turn}
 use Rattle.hc_service.specs.State.{State}
@@ -99,6 +100,22 @@ pub record KeepsAgreement (happening : Happening) (actions : List Action) (h : H
   pub later : History
   pub goes_on : GoesOn happening actions h later
   pub agrees : Agrees s later
+
+-- the connection closes before all else is done
+abbrev pub ClosesFirst : ℕ → List Action → Type 0
+ClosesFirst c (action.CloseClient d ∷ actions) = d ≡ c
+ClosesFirst c actions = ⊥
+
+-- whatever goes to a client, its connection closes behind that
+abbrev pub AllCloseBehind : List Action → Type 0
+AllCloseBehind [] = Unit {0}
+AllCloseBehind (action.ToClient c octets ∷ actions) = ClosesFirst c actions × AllCloseBehind actions
+AllCloseBehind (other ∷ actions) = AllCloseBehind actions
+
+-- what is done closes each connection behind its reply, and so it is from then on
+pub record ClosesOn (actions : List Action) (s : State) : Type 0 where
+  pub behind : AllCloseBehind actions
+  pub closing : s.numbers.closing ≡ true
 
 -- a count to which so many come: as many more, as far as records can be numbered, and never more
 pub record IsCountedOn (before more after : ℕ) : Type 0 where

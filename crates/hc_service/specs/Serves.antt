@@ -6,7 +6,7 @@ use Rattle.hc_head.specs.Methods.{is_head}
 use Rattle.hc_transcript.specs.Limits.{greatest_moment}
 use Rattle.hc_events.specs.declared.Event.{Event}
 use Rattle.hc_events.specs.declared.Happening.{Happening}
-use Rattle.hc_events.specs.declared.Happening.TheVariants.{ClientOpened, ClientBytes, ClientEnd, OriginBytes, OriginEnd, OriginFailed}
+use Rattle.hc_events.specs.declared.Happening.TheVariants.{ClientOpened, ClientBytes, ClientEnd, OriginBytes, OriginEnd, OriginFailed, Stopping as ToStop}
 use Rattle.hc_links.specs.Requests.{IsUnfinished}
 use Rattle.hc_links.specs.Responses.{IsUnfinished as IsAwaitedStill}
 use Rattle.hc_service.specs.declared.action.Action.{Action}
@@ -17,7 +17,7 @@ use Rattle.hc_service.specs.declared.settings.CoreSettings.{CoreSettings}
 use Rattle.hc_service.specs.Numbers.{at_moment, is_later}
 use Rattle.hc_service.specs.Joining.{waiting_for}
 use Rattle.hc_service.specs.State.{State, Table, Connection, Awaited, exchange_for}
-use Rattle.hc_service.specs.Turns.{most_unread, Failure, Opens, ClientSends, Drops, Leaves, Closes, Refuses, Asks, OriginSends, Answers, Breaks, Releases}
+use Rattle.hc_service.specs.Turns.{most_unread, Failure, Opens, ClientSends, Drops, Leaves, Closes, Refuses, Asks, OriginSends, Answers, Breaks, Releases, Stops}
 use Rattle.hc_service.specs.Turns.Failure.{IsBroken, IsCutOff, IsLost}
 
 -- ---- turns
@@ -44,6 +44,8 @@ pub data Turn : Type 0 where
   Failing : (f : ℕ) (how : Failure) → Turn
   -- an exchange is released that waited for a forward, which has ended
   Releasing : (e : ℕ) → Turn
+  -- whoever serves the cache stops
+  Stopping : Turn
 
 -- what a turn does
 abbrev pub Takes : CoreSettings → Turn → State → List Action → State → Type 0
@@ -58,6 +60,7 @@ Takes settings (OriginSending f octets) s actions s' = OriginSends f octets s ac
 Takes settings (Answering f ended) s actions s' = Answers settings f ended s actions s'
 Takes settings (Failing f how) s actions s' = Breaks settings f how s actions s'
 Takes settings (Releasing e) s actions s' = Releases settings e s actions s'
+Takes settings Stopping s actions s' = Stops s actions s'
 
 -- turns, one after another
 abbrev pub Run : CoreSettings → List Turn → State → List Action → State → Type 0
@@ -141,6 +144,7 @@ Owes (ClientEnd c) turns s s' = (k : Connection) × (get s.connections c ≡ Som
 Owes (OriginBytes f octets) turns s s' = (more : List Turn) × (turns ≡ OriginSending f octets ∷ more) × OwesAnswer f more s s'
 Owes (OriginEnd f) turns s s' = OwesReply f (Answering f true) turns s s' ⊎ OwesReply f (Failing f IsCutOff) turns s s'
 Owes (OriginFailed f) turns s s' = OwesReply f (Failing f IsLost) turns s s'
+Owes ToStop turns s s' = turns ≡ Stopping ∷ []
 
 -- the moment has come
 abbrev pub passed_to : ℕ → State → State
@@ -154,7 +158,7 @@ passed_to moment s = record {
 
 -- ---- which events are served
 
--- what the event is about is open, or has a number that may be opened
+-- what the event is about is open, or has a number that may be opened; or it is about the cache as a whole
 abbrev pub is_known : Happening → State → Bool
 is_known (ClientOpened c) s = is_later c s.numbers.connection
 is_known (ClientBytes c octets) s = is_some (get s.connections c)
@@ -162,6 +166,7 @@ is_known (ClientEnd c) s = is_some (get s.connections c)
 is_known (OriginBytes f octets) s = is_some (get s.forwards f)
 is_known (OriginEnd f) s = is_some (get s.forwards f)
 is_known (OriginFailed f) s = is_some (get s.forwards f)
+is_known ToStop s = true
 
 -- as many connections are open as may be
 abbrev pub is_full : Happening → State → Bool

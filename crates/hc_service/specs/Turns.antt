@@ -14,6 +14,7 @@ use Rattle.hc_service.specs.declared.action.Action.{Action}
 use Rattle.hc_service.specs.declared.action.Action.TheVariants.{CloseClient}
 use Rattle.hc_service.specs.declared.cases.Cause.{Cause}
 use Rattle.hc_service.specs.declared.cases.Cause.TheVariants.{UriMiss}
+use Rattle.hc_service.specs.declared.numbers.Numbers.{Numbers}
 use Rattle.hc_update.specs.declared.stored.Stored.{Stored}
 use Rattle.hc_service.specs.declared.open.ForwardKind.TheVariants.{Joinable, Plain}
 use Rattle.hc_service.specs.declared.open.OpenExchange.{OpenExchange}
@@ -22,7 +23,7 @@ use Rattle.hc_service.specs.declared.open.Purpose.{Purpose}
 use Rattle.hc_service.specs.declared.open.Purpose.TheVariants as purpose
 use Rattle.hc_service.specs.declared.settings.CoreSettings.{CoreSettings}
 use Rattle.hc_service.specs.Asking.{ends_connection}
-use Rattle.hc_service.specs.Numbers.{one_more, after_opening, asked, sent, noted, is_later}
+use Rattle.hc_service.specs.Numbers.{one_more, after_opening, asked, sent, noted, stopping, is_later}
 use Rattle.hc_service.specs.State.{State, Table, Connection, Awaited, is_conditional, new_connection, open_now}
 use Rattle.hc_service.specs.Joining.{shared}
 use Rattle.hc_service.specs.Choices.{Finds}
@@ -70,14 +71,14 @@ abbrev pub sent_forward : RequestHead → Target → ℕ → Purpose → Awaited
 sent_forward request target moment aim =
     record { forward = record { request = request; target = target; moment = moment; purpose = aim }; received = [] }
 
--- whether the connection closes behind a reply: the request says so, or nothing more is read
-abbrev pub closes_behind : RequestHead → Connection → Bool
-closes_behind request k = ends_connection request || k.leaves
+-- whether the connection closes behind a reply: the request says so, nothing more is read, or each reply closes now
+abbrev pub closes_behind : RequestHead → Connection → Numbers → Bool
+closes_behind request k n = ends_connection request || (k.leaves || n.closing)
 
 -- the reply that a request on a connection wants now
 abbrev pub wanted_now : CoreSettings → State → RequestHead → Connection → Wanted
 wanted_now settings s request k =
-    record { name = settings.name; moment = s.numbers.moment; asked = request; closes = closes_behind request k }
+    record { name = settings.name; moment = s.numbers.moment; asked = request; closes = closes_behind request k s.numbers }
 
 -- ---- what a turn leaves alone
 
@@ -120,6 +121,21 @@ pub record KeepsAllButForwards (s s' : State) : Type 0 where
   pub connections : s'.connections ≡ s.connections
   pub exchanges : s'.exchanges ≡ s.exchanges
   pub store : s'.store ≡ s.store
+
+-- the connections, the exchanges, the forwards and what is stored stay: nothing but the numbers may change
+pub record KeepsAllButNumbers (s s' : State) : Type 0 where
+  pub connections : s'.connections ≡ s.connections
+  pub exchanges : s'.exchanges ≡ s.exchanges
+  pub forwards : s'.forwards ≡ s.forwards
+  pub store : s'.store ≡ s.store
+
+-- ---- the cache as a whole
+
+-- whoever serves it stops: from now on each reply closes its connection behind it
+pub record Stops (s : State) (actions : List Action) (s' : State) : Type 0 where
+  pub numbers : s'.numbers ≡ stopping s.numbers
+  pub keeps : KeepsAllButNumbers s s'
+  pub actions_are : actions ≡ []
 
 -- ---- connections
 

@@ -32,7 +32,7 @@ ghost use Rattle.hc_service.specs.declared.cases.Cause.{Cause};
 ghost use Rattle.hc_service.specs.declared.open.OpenForward.{OpenForward};
 ghost use Rattle.hc_service.specs.Answers.{Renews};
 ghost use Rattle.hc_service.specs.Choices.{Finds, Stores, may_update, validation_by};
-ghost use Rattle.hc_service.specs.Laws.{HasSources, HoldsNoCookie, IsCountedOn, IsReceivedAnswer, IsReceivedAsk, IsToldStatus, is_response, recorded_forward, with_record, KeepsAgreement, KeepsAll, KeepsOn};
+ghost use Rattle.hc_service.specs.Laws.{ClosesOn, HasSources, HoldsNoCookie, IsCountedOn, IsReceivedAnswer, IsReceivedAsk, IsToldStatus, is_response, recorded_forward, with_record, KeepsAgreement, KeepsAll, KeepsOn};
 ghost use Rattle.hc_service.specs.declared.action.Action.{Action};
 ghost use Rattle.hc_service.specs.Serves.{Run, Serves, Takes, Turn};
 ghost use Rattle.hc_events.specs.declared.Event.{Event};
@@ -50,10 +50,10 @@ ghost use Rattle.hc_service.specs.Replying.{Wanted, collapsed_reply, entry_reply
 ghost use Rattle.hc_history.specs.Usable.{age_at};
 ghost use Rattle.hc_service.specs.Joining.{may_be_shared, AllHaveForwards, FewWait, LeavesNobody, WaitForOpen};
 ghost use Rattle.hc_service.specs.Serving.{is_fresh, may_be_served, may_replace};
-ghost use Rattle.hc_service.specs.Turns.{IsAnswer, after_origin_octets, after_client_octets, after_request, replied};
+ghost use Rattle.hc_service.specs.Turns.{IsAnswer, after_origin_octets, after_client_octets, after_request, replied, wanted_now};
 ghost use Rattle.hc_service.specs.Settings.{AreGood, is_name};
 ghost use Rattle.hc_service.specs.Follows.{Follows};
-ghost use Rattle.hc_events.specs.declared.Happening.TheVariants.{ClientOpened};
+ghost use Rattle.hc_events.specs.declared.Happening.TheVariants.{ClientOpened, Stopping};
 
 use hc_rules::{forwards_are_writable, forwards_keep_the_target};
 
@@ -465,4 +465,15 @@ pub fn what_is_open_follows_the_actions()
     ensures { (settings : CoreSettings) (event : Event) (s : State) (actions : List Action) (other : State)
         → ((c : ℕ) → event.of ≡ ClientOpened c → get s.connections c ≡ None)
         → Serves settings event s actions other → Follows event.of s actions other }
+{}
+
+/// Once whoever serves a cache stops, each reply and each refusal closes its connection behind it, and each reply that
+/// is wanted says so; and so it is from then on.
+pub fn replies_close_behind_a_stop()
+    ensures stops { (settings : CoreSettings) (event : Event) (s : State) (actions : List Action) (other : State)
+        → event.of ≡ Stopping → Serves settings event s actions other → ClosesOn actions other }
+    ensures closes { (settings : CoreSettings) (event : Event) (s : State) (actions : List Action) (other : State)
+        → s.numbers.closing ≡ true → Serves settings event s actions other → ClosesOn actions other }
+    ensures says { (settings : CoreSettings) (s : State) (request : RequestHead) (connection : Connection)
+        → s.numbers.closing ≡ true → (wanted_now settings s request connection).closes ≡ true }
 {}

@@ -18,11 +18,13 @@ pub struct Numbers {
     pub records: u64,
     /// For how many connections there is room, from 1 to 65,536.
     pub room: usize,
+    /// Whether each reply closes its connection behind it.
+    pub closing: bool,
 }
 
 impl Numbers {
     ghost use Rattle.std.specs.Prelude.{◌≡◌, ℕ};
-    ghost use Rattle.hc_service.specs.Numbers.{after_opening, asked, at_moment, no_numbers, noted, one_more, sent};
+    ghost use Rattle.hc_service.specs.Numbers.{after_opening, asked, at_moment, no_numbers, noted, one_more, sent, stopping};
 
     /// Those of a cache to which nothing has happened, with room for so many connections.
     pub fn new(room: usize) -> Self
@@ -35,6 +37,7 @@ impl Numbers {
             forward: 0,
             records: 0,
             room,
+            closing: false,
         }
     }
 
@@ -77,5 +80,12 @@ impl Numbers {
         ensures { self.new ≡ noted self.old }
     {
         self.records = self.records.saturating_add(1);
+    }
+
+    /// From now on each reply closes its connection behind it.
+    pub fn stop(&mut self)
+        ensures { self.new ≡ stopping self.old }
+    {
+        self.closing = true;
     }
 }

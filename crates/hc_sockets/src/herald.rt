@@ -2,7 +2,8 @@
 
 use crate::health::Health;
 use crate::recorded::{RecordEnd, Recorded};
-use hc_crowd::{Crowd, Failures, World};
+use crate::wrongs::{SpokenWrongs, say_wrongs};
+use hc_crowd::{Counted, Crowd, Failures, World};
 use hc_drive::Watcher;
 use hc_notices::{Notice, Voice};
 use std::io::Write;
@@ -17,6 +18,8 @@ pub(crate) struct Herald<'a, E: Write> {
     health: &'a Health,
     /// The failures that were told.
     told: Failures,
+    /// What was told of what was wrong with what came.
+    wrongs: &'a mut SpokenWrongs,
     /// How many failed polls were told, and the millisecond before which nothing more is said of them.
     told_polls: u64,
     polls_due: u64,
@@ -32,14 +35,20 @@ impl<'a, E: Write> Herald<'a, E> {
     ghost use Rattle.std.specs.Prelude.{◌≡◌};
     ghost use Rattle.hc_notices.specs.Voices.{GoesOn};
 
-    /// By that voice, of the system that has this health. Of so many failures nothing is said.
-    pub(crate) fn new(voice: Voice<'a, E>, health: &'a Health, told: Failures) -> Self
+    /// By that voice, of the system that has this health. Of so many failures nothing is said, nor of wrongs that were told.
+    pub(crate) fn new(
+        voice: Voice<'a, E>,
+        health: &'a Health,
+        told: Failures,
+        wrongs: &'a mut SpokenWrongs,
+    ) -> Self
         ensures { result.voice ≡ voice.entry }
     {
         Herald {
             voice,
             health,
             told,
+            wrongs,
             told_polls: 0,
             polls_due: 0,
             was_behind: false,
@@ -64,7 +73,7 @@ impl<'a, E: Write> Herald<'a, E> {
 
     /// Says what is new by that millisecond: so many links have failed, and the wall clock is behind or isn't. Where the
     /// system lets nobody be served any more, links fail for that alone, and nothing is said of them.
-    fn look_at(&mut self, tick: u64, failures: Failures, is_behind: bool)
+    pub(crate) fn look_at(&mut self, tick: u64, failures: Failures, is_behind: bool)
         ensures { GoesOn E.contents self.old.voice self.new.voice }
     {
         self.look_at_polls(tick);
@@ -98,6 +107,13 @@ impl<'a, E: Write> Herald<'a, E> {
         self.voice.say_if(is_new, Notice::Behind);
     }
 
+    /// Says what was wrong with what came, of each kind a line a second at most.
+    pub(crate) fn look_at_wrongs(&mut self, tick: u64, kinds: &[Counted])
+        ensures { GoesOn E.contents self.old.voice self.new.voice }
+    {
+        say_wrongs(&mut *self.wrongs, &mut self.voice, tick, kinds);
+    }
+
     /// Says that the recording has ended, if that wasn't told yet.
     pub(crate) fn look_at_recording<T: Recorded>(&mut self, recording: &T)
         ensures { GoesOn E.contents self.old.voice self.new.voice }
@@ -125,8 +141,17 @@ impl<'a, E: Write> Herald<'a, E> {
         let silent = failures.silent.saturating_sub(self.told.silent);
         let unfinished = failures.unfinished.saturating_sub(self.told.unfinished);
         let unplaced = failures.unplaced.saturating_sub(self.told.unplaced);
+        let abandoned = failures.abandoned.saturating_sub(self.told.abandoned);
         let heavy = failures.heavy.saturating_sub(self.told.heavy);
-        let is_new = (unreached | late | broken | silent | unfinished | unplaced | heavy) > 0;
+        let is_new = (unreached
+            | late
+            | broken
+            | silent
+            | unfinished
+            | unplaced
+            | abandoned
+            | heavy)
+            > 0;
         let is_due = (tick >= self.due) & is_new;
         if !is_due {
             return;
@@ -141,6 +166,8 @@ impl<'a, E: Write> Herald<'a, E> {
         self.voice
             .say_if(unfinished > 0, Notice::Unfinished(unfinished));
         self.voice.say_if(unplaced > 0, Notice::Unplaced(unplaced));
+        self.voice
+            .say_if(abandoned > 0, Notice::Abandoned(abandoned));
         self.voice.say_if(heavy > 0, Notice::Heavy(heavy));
     }
 }
@@ -153,6 +180,7 @@ impl<'a, W: World, T: Recorded, E: Write> Watcher<Crowd<W>, T> for Herald<'a, E>
 
     fn look(&mut self, links: &Crowd<W>, recorder: &T) {
         self.look_at(links.tick(), links.failures(), links.is_behind());
+        self.look_at_wrongs(links.tick(), links.troubles().as_slice());
         self.look_at_recording(recorder);
     }
 

@@ -25,6 +25,7 @@ mod system_link;
 mod tokens;
 mod watched;
 mod wire;
+mod wrongs;
 
 pub use claim::Claim;
 pub use fault::ServeFault;

@@ -4,7 +4,7 @@ use crate::addresses::addresses_of;
 use crate::tokens::Source;
 use hc_crowd::Accepted;
 use mio::net::{TcpListener, TcpStream};
-use mio::{Interest, Poll};
+use mio::{Interest, Poll, Registry};
 use std::io;
 use std::io::ErrorKind;
 use std::net::{Net, SocketAddr};
@@ -108,6 +108,18 @@ impl Listeners {
         }
     }
 
+    /// The poll tells anew of each whether a client waits there. Answers whether it does.
+    pub(crate) fn ask(&mut self, registry: &Registry) -> bool {
+        let mut place = 0;
+        'listeners: for listener in self.listeners.iter_mut() {
+            if !listener.ask(registry, place) {
+                return false;
+            }
+            place = place.saturating_add(1);
+        }
+        true
+    }
+
     /// Closes them.
     pub(crate) fn close(&mut self) {
         self.listeners.clear();
@@ -115,6 +127,16 @@ impl Listeners {
 }
 
 impl Listener {
+    /// The poll tells anew whether a client waits at the one at that place. Answers whether it does.
+    fn ask(&mut self, registry: &Registry, place: u64) -> bool {
+        let Some(token) = Source::Listener(place).token() else {
+            return false;
+        };
+        registry
+            .reregister(&mut self.socket, token, Interest::READABLE)
+            .is_ok()
+    }
+
     /// The next client. Behind an error the socket is asked again.
     fn accept(&mut self) -> Accepted<TcpStream> {
         if !self.ready {

@@ -219,6 +219,10 @@ impl<'a, R: Net + Files + Clock> World for Sockets<'a, R> {
         }
     }
 
+    fn ask_for_clients(&mut self) -> bool {
+        self.listeners.ask(self.poll.registry())
+    }
+
     fn rename(&mut self, stream: &mut Wire, number: u64) -> bool {
         match Source::Client(number).token() {
             Some(token) => stream.tell_by(self.poll.registry(), token),

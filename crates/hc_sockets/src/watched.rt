@@ -15,6 +15,7 @@ ghost use Rattle.hc_notices.specs.Notices.{SaysSome};
 use crate::health::Health;
 use crate::herald::Herald;
 use crate::recorded::Recorded;
+use crate::wrongs::SpokenWrongs;
 use hc_crowd::{Crowd, World};
 use hc_drive::{DriveFault, Watcher, serve_crowd};
 use hc_link_traits::{Batches, Links, Recorder};
@@ -60,11 +61,14 @@ pub fn serve_links<W: World, T: Recorder + Recorded, E: Write>(
         → GivesRecording result (T.has_got recorder.new) (T.has_kept recorder.new) }
 {
     let voice = Voice::new(alloc, faults);
-    let mut herald = Herald::new(voice, start.health, crowd.failures());
+    let mut wrongs = SpokenWrongs::new(alloc);
+    let mut herald = Herald::new(voice, start.health, crowd.failures(), &mut wrongs);
     herald.say(Notice::Listening(start.greeting));
     herald.say_if(!start.hears_stops, Notice::Deaf);
     let served = served_by(alloc, core, crowd, recorder, &mut herald);
-    // Behind the last batch nobody has looked.
+    // Behind the last batch nobody has looked. What wasn't told yet is told now.
+    herald.look_at(u64::MAX, crowd.failures(), crowd.is_behind());
+    herald.look_at_wrongs(u64::MAX, crowd.troubles().as_slice());
     herald.look_at_recording(&*recorder);
     served
 }

@@ -14,4 +14,4 @@ pub limit_in-requires-4-clause-among : goal.limit_in-requires-4-clause-among
 limit_in-requires-4-clause-among c = inr (inr (inr (inr (inr (inr (inr (inr (inr (inr (inr (inr (inl refl))))))))))))
 
 pub limit_in-requires-5-clause-among : goal.limit_in-requires-5-clause-among
-limit_in-requires-5-clause-among c = inr (inr (inr (inr (inr (inr (inr (inr (inr (inr (inr (inr (inr (inr (inr (inl refl)))))))))))))))
+limit_in-requires-5-clause-among c = inr (inr (inr (inr (inr (inr (inr (inr (inr (inr (inr (inr (inr (inr (inr (inr (inl refl))))))))))))))))

@@ -18,3 +18,6 @@ limit_in-requires-5-clause-among c = inr (inr (inr (inr (inr (inr (inr (inr (inr
 
 pub limit_in-requires-6-clause-among : goal.limit_in-requires-6-clause-among
 limit_in-requires-6-clause-among c = inr (inr (inr (inr (inr (inr (inr (inr (inr (inr (inr (inr (inr (inr (inl refl))))))))))))))
+
+pub limit_in-requires-7-clause-among : goal.limit_in-requires-7-clause-among
+limit_in-requires-7-clause-among c = inr (inr (inr (inr (inr (inr (inr (inr (inr (inr (inr (inr (inr (inr (inr (inl refl)))))))))))))))

@@ -8,4 +8,4 @@ pub returns-then-make_room : goal.returns-then-make_room
 returns-then-make_room g c = record { kept = within_then (keeps_within (keeps_then c.next_guest.ensures.kept c.make_room.ensures.kept)) c.invite.ensures.kept }
 
 pub returns : goal.returns
-returns g c = record { kept = keeps_within (keeps_then (keeps_then c.next_guest.ensures.kept c.make_room.ensures.kept) c.turn_away.ensures.kept) }
+returns g c = record { kept = keeps_within (keeps_then (keeps_then c.next_guest.ensures.kept c.make_room.ensures.kept) c.find_room.ensures.kept) }

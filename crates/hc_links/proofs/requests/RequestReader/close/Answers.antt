@@ -7,6 +7,6 @@ returns-in-Ok c = record { gives = λ octets unfinished read. given_up c.args.se
 pub returns-in_ok-unless_memory-in-Err : goal.returns-in_ok-unless_memory-in-Err
 returns-in_ok-unless_memory-in-Err c = record {
   gives = λ octets unfinished read.
-      ended_by c.args.self.now c.end.new.self octets c.in-Err.fault c.in_ok-unless_memory-in-Err.field-0 c.last_status.result c.in_ok-unless_memory-in-Err.ensures.0 c.in_ok-unless_memory-in-Err.ensures.1 c.last_status.ensures
+      ended_by c.args.self.now c.end.new.self octets c.in-Err.fault c.in_ok-unless_memory-in-Err.field-0 c.last_trouble.result c.in_ok-unless_memory-in-Err.ensures.0 c.in_ok-unless_memory-in-Err.ensures.1 c.last_trouble.ensures
       unfinished read c.in-Err.ensures.gives;
 }

@@ -11,7 +11,7 @@ use Rattle.hc_links.proofs.requests.RequestReader.take_request.Goals as goal
 pub returns-in-None-clause-gives : goal.returns-in-None-clause-gives
 returns-in-None-clause-gives c = λ octets ends.
     takes c.args.self.now c.test.new.self (record c.test.new.self { reader = c.replace-reader.new.dest; target = c.take.new.self; waits = c.skip.new.self; heard = c.unread-self.result })
-    c.args.used octets c.replace-reader.result c.take-in-None.result c.unwrap-target.result ends (rw c.in-None.is at c.in_ok-status.ensures)
+    c.args.used octets c.replace-reader.result c.take-in-None.result c.unwrap-target.result ends (rw c.in-None.is at c.in_ok-trouble.ensures)
     c.replace-reader.ensures.value (sym c.take.ensures.value ∙ c.unwrap-target.ensures) c.take-in-None.ensures
     (subst (λ (m : MessageReader RequestHead). framing.Agrees request_form Request RECEIVED m []) (sym c.replace-reader.ensures.after) c.new-next.ensures.agrees)
     (ap (λ (m : MessageReader RequestHead). m.head) c.replace-reader.ensures.after ∙ c.new-next.ensures.head)
@@ -19,4 +19,4 @@ returns-in-None-clause-gives c = λ octets ends.
 
 pub returns-in-Some-clause-gives : goal.returns-in-Some-clause-gives
 returns-in-Some-clause-gives c = λ octets ends.
-    ends_and_failed c.args.self.now c.test.new.self c.args.used octets c.in-Some.status ends (rw c.in-Some.is at c.in_ok-status.ensures)
+    ends_and_failed c.args.self.now c.test.new.self c.args.used octets c.in-Some.trouble ends (rw c.in-Some.is at c.in_ok-trouble.ensures)

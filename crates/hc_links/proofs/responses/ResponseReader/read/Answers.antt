@@ -9,7 +9,7 @@ use Rattle.hc_links.proofs.responses.ResponseReader.read.Goals as goal
 
 pub returns-in_ok-unless_memory-in-Err-clause-gives : goal.returns-in_ok-unless_memory-in-Err-clause-gives
 returns-in_ok-unless_memory-in-Err-clause-gives c = λ to_head octets a.
-    fails to_head c.args.self.now octets c.args.piece.now c.in-Err.fault a c.in_ok-unless_memory-in-Err.ensures.1 (c.in-Err.ensures.gives (Response to_head) RECEIVED a.rest a.reads)
+    fails to_head c.args.self.now octets c.args.piece.now c.in-Err.fault c.in_ok-unless_memory-in-Err.field-0 c.trouble_of.result a c.in_ok-unless_memory-in-Err.ensures.1 c.in_ok-unless_memory-in-Err.ensures.0 c.trouble_of.ensures (c.in-Err.ensures.gives (Response to_head) RECEIVED a.rest a.reads)
 
 pub returns-in-Ok-More-clause-gives : goal.returns-in-Ok-More-clause-gives
 returns-in-Ok-More-clause-gives c = λ to_head octets a.

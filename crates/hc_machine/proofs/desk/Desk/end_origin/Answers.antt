@@ -9,17 +9,17 @@ pub returns-in_default : goal.returns-in_default
 returns-in_default g c = λ settings s awaited stands there.
     absurd (none_or_some (get s.forwards c.args.f) awaited (c.in_default.ensures s.forwards stands.links).0 there)
 
-pub returns-in-Some-ended : goal.returns-in-Some-ended
-returns-in-Some-ended g c = λ settings s awaited stands there.
+pub returns-in-Response : goal.returns-in-Response
+returns-in-Response g c = λ settings s awaited stands there.
     let d = c.args.self.now in
     let link = c.in-Some.link in
     let taken = c.in-Some.ensures s.forwards stands.links in
     let was = taken_link link (get s.forwards c.args.f) taken.0 awaited taken.1 there taken.2 in
-    let ends = (rw c.in-Some-ended.is at (c.in_ok-ended.ensures.gives (is_head awaited.forward.request.method) awaited.received was.reads)) in
+    let ends = (rw c.in-Response.is at (c.in_ok-ended.ensures.gives (is_head awaited.forward.request.method) awaited.received was.reads)) in
     left_way c.answer.result _ _
     (c.answer.ensures settings s awaited true
     (stands_without g.row.S.Denot g.row.S-Hasher.Denot settings d s c.args.f awaited stands there c.take.new.self taken.3) there
-    (same_forward link awaited was) (answer_of_link link awaited was true awaited.received c.in-Some-ended.response ends))
+    (same_forward link awaited was) (answer_of_link link awaited was true awaited.received c.in-Response.response ends))
 
 pub returns : goal.returns
 returns g c = λ settings s awaited stands there.
@@ -27,8 +27,8 @@ returns g c = λ settings s awaited stands there.
     let link = c.in-Some.link in
     let taken = c.in-Some.ensures s.forwards stands.links in
     let was = taken_link link (get s.forwards c.args.f) taken.0 awaited taken.1 there taken.2 in
-    let ends = (rw c.in-None.is at (c.in_ok-ended.ensures.gives (is_head awaited.forward.request.method) awaited.received was.reads)) in
+    let ends = (rw c.in-Failed.is at (c.in_ok-ended.ensures.gives (is_head awaited.forward.request.method) awaited.received was.reads)) in
     right_way c.break_off.result _ _
     (c.break_off.ensures settings s awaited IsCutOff
     (stands_without g.row.S.Denot g.row.S-Hasher.Denot settings d s c.args.f awaited stands there c.take.new.self taken.3) there
-    (same_forward link awaited was) refl (failure_of_link link awaited was IsCutOff awaited.received ends))
+    (same_forward link awaited was) refl (failure_of_link link awaited was IsCutOff awaited.received ends.failure))

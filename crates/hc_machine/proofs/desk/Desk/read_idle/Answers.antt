@@ -1,4 +1,6 @@
 use Rattle.std.specs.FinMap.{remove}
+use Rattle.hc_links.proofs.HeadLemmas.{refused_for}
+use Rattle.hc_links.specs.Troubles.{refusal_status}
 use Rattle.hc_links.specs.declared.arrival.Arrival.TheVariants.{More, Refused, Request}
 use Rattle.hc_open.specs.Links.{IsClient}
 use Rattle.hc_open.proofs.TableLemmas.{alike_put}
@@ -13,11 +15,12 @@ returns-in_ok-insert-in-More-clause-reading g c = λ settings s k stands there i
     (still_idle c.args.client c.next.new.self k is idle gives.1) c.in_ok-insert-in-More.ensures.updates c.in_ok-insert-in-More.ensures.old c.in_ok-insert-in-More.ensures.len)
     idle gives.0
 
-pub returns-in_ok-refuse-in-Refused-clause-reading : goal.returns-in_ok-refuse-in-Refused-clause-reading
-returns-in_ok-refuse-in-Refused-clause-reading g c = λ settings s k stands there is idle.
-    reads_refusal g.row.S.Denot g.row.S-Hasher.Denot settings c.args.c c.args.self.now s k stands there c.in-Refused.status c.args.actions.now.items c.refuse.new.actions.items idle
-    (gives_as c.in_ok-next.field-0 (Refused c.in-Refused.status) c.next.new.self k.unread c.in-Refused.is (c.in_ok-next.ensures.gives k.unread is.reads))
-    c.in_ok-refuse-in-Refused.ensures
+pub returns-in_ok-refuse_client-in-Refused-clause-reading : goal.returns-in_ok-refuse_client-in-Refused-clause-reading
+returns-in_ok-refuse_client-in-Refused-clause-reading g c = λ settings s k stands there is idle.
+    reads_refusal g.row.S.Denot g.row.S-Hasher.Denot settings c.args.c (record c.args.self.now { incidents = c.refuse_client.new.incidents }) s k stands there (refusal_status c.in-Refused.trouble) c.args.actions.now.items c.refuse_client.new.actions.items idle
+    (refused_for k.unread c.in-Refused.trouble
+    (gives_as c.in_ok-next.field-0 (Refused c.in-Refused.trouble) c.next.new.self k.unread c.in-Refused.is (c.in_ok-next.ensures.gives k.unread is.reads)))
+    c.in_ok-refuse_client-in-Refused.ensures.actions
 
 pub returns-in_ok-ask-in-Request-clause-reading : goal.returns-in_ok-ask-in-Request-clause-reading
 returns-in_ok-ask-in-Request-clause-reading g c = λ settings s k stands there is idle.

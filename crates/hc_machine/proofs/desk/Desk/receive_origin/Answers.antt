@@ -53,4 +53,4 @@ returns-in_ok-client-in-Failed g c = λ settings s awaited stands there.
     (c.in_ok-client-in-Failed.ensures settings (state_received g.row.S.Denot g.row.S-Hasher.Denot settings d s c.args.f octets awaited stands there) (after_origin_octets octets awaited) IsBroken
     (received_without g.row.S.Denot g.row.S-Hasher.Denot settings d s c.args.f octets awaited stands there c.forget-in-Failed.new.self (let others = c.forget-in-Failed.ensures.others s.forwards awaited stands.links.behind stands.links.joinable there (same_forward link awaited was) in record { by_number = forgotten; behind = others.0; joinable = others.1 }))
     (received_there g.row.S.Denot g.row.S-Hasher.Denot settings d s c.args.f octets awaited stands there)
-    (same_forward link awaited was) refl (failure_of_link link awaited was IsBroken (awaited.received ++ octets) heard))
+    (same_forward link awaited was) refl (failure_of_link link awaited was IsBroken (awaited.received ++ octets) heard.failure))

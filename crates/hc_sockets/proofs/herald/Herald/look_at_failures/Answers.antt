@@ -8,4 +8,4 @@ pub returns : goal.returns
 returns g c =
     let first = joined g.E.Write.contents _ _ _ (joined g.E.Write.contents _ _ _ c.say_if.ensures c.say_if-2.ensures) c.say_if-3.ensures in
     let last = joined g.E.Write.contents _ _ _ (joined g.E.Write.contents _ _ _ c.say_if-4.ensures c.say_if-5.ensures) c.say_if-6.ensures in
-    joined g.E.Write.contents _ _ _ first (joined g.E.Write.contents _ _ _ last c.say_if-7.ensures)
+    joined g.E.Write.contents _ _ _ first (joined g.E.Write.contents _ _ _ last (joined g.E.Write.contents _ _ _ c.say_if-7.ensures c.say_if-8.ensures))

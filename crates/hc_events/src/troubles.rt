@@ -1,0 +1,80 @@
+//! Why something is refused, fails, or is given up.
+
+/// What is wrong with a message that came on a link, with what it asks, or with the link itself.
+#[derive(Clone, Copy, PartialEq, Eq)]
+pub enum Trouble {
+    /// The message breaks the syntax of HTTP/1.1.
+    Syntax,
+    /// Its head has more fields than there is room for.
+    TooManyFields,
+    /// Its head is longer than there is room for.
+    HeadTooLong,
+    /// The request has not exactly one valid Host line.
+    Host,
+    /// The target of the request names nothing of an origin.
+    Target,
+    /// The message has both Transfer-Encoding and Content-Length.
+    BothLengths,
+    /// It says wrongly how long its body is.
+    BadLength,
+    /// Its transfer coding isn't known.
+    BadCoding,
+    /// A chunk of its body breaks the syntax.
+    BadChunk,
+    /// Its body is too long, or is said to be.
+    BodyTooLong,
+    /// The link ended inside of it.
+    EndedEarly,
+    /// The client waits for an interim response before it sends the body.
+    Expectation,
+    /// The response changes to another protocol.
+    SwitchesProtocol,
+    /// More interim responses came than may.
+    TooManyInterim,
+    /// No place at the origin came free in time.
+    Unplaced,
+    /// No link to the origin could be made.
+    Unreached,
+    /// None was made in time.
+    ConnectLate,
+    /// The link broke off.
+    Broken,
+    /// Nothing passed on the link for too long.
+    Silent,
+    /// It took too long in all.
+    Unfinished,
+    /// Too much was held of it.
+    Heavy,
+    /// Nobody waited for it any more.
+    Abandoned,
+}
+
+impl Trouble {
+    /// The same in a few words, of a message, a forward or a link that was named before.
+    pub fn name(self) -> &'static str {
+        match self {
+            Trouble::Syntax => "it breaks the syntax of HTTP/1.1",
+            Trouble::TooManyFields => "it has too many fields",
+            Trouble::HeadTooLong => "its head is too long",
+            Trouble::Host => "it has not exactly one valid Host line",
+            Trouble::Target => "its target names nothing of an origin",
+            Trouble::BothLengths => "it has both Transfer-Encoding and Content-Length",
+            Trouble::BadLength => "it says wrongly how long its body is",
+            Trouble::BadCoding => "its transfer coding is not known",
+            Trouble::BadChunk => "a chunk of its body breaks the syntax",
+            Trouble::BodyTooLong => "its body is too long",
+            Trouble::EndedEarly => "it was cut off",
+            Trouble::Expectation => "it expects an interim response",
+            Trouble::SwitchesProtocol => "it changes to another protocol",
+            Trouble::TooManyInterim => "too many interim responses came before it",
+            Trouble::Unplaced => "no place at the origin came free in time",
+            Trouble::Unreached => "no link to the origin could be made",
+            Trouble::ConnectLate => "no link to the origin was made in time",
+            Trouble::Broken => "the link broke off",
+            Trouble::Silent => "nothing passed on the link for too long",
+            Trouble::Unfinished => "it took too long in all",
+            Trouble::Heavy => "too much was held of it",
+            Trouble::Abandoned => "nobody waited for it any more",
+        }
+    }
+}
