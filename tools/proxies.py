@@ -27,8 +27,9 @@ DRAIN = 8  # seconds of a drain, where none are said
 WAIT = 2  # seconds that may pass behind a deadline
 
 LISTENING = re.compile(r"hcache: listening at (.+), before (.+), with a store of (\d+) keys and (\d+) bytes")
-FAILED = re.compile(r"hcache: (.+): (\d+) (?:forwards?|links?)")
-WRONG = re.compile(r"hcache: (requests were refused|responses failed), since (.+): (\d+) times?, the last (.+)")
+WRONG = re.compile(
+    r"hcache: (requests were refused|responses failed|clients were cut off), since (.+): (\d+) times?, the last (.+)"
+)
 
 Record = collections.namedtuple("Record", "kind number octets")
 
@@ -96,15 +97,14 @@ class Proxy:
         self.ran.stderr.close()
 
     def failures(self):
-        """What it said of links that failed: kinds and how many."""
-        lines = [line for line in self.said if not LISTENING.fullmatch(line) and not WRONG.fullmatch(line)]
-        found = [FAILED.fullmatch(line) for line in lines]
-        want(f"lines that are known: {lines}", all(found))
-        return [(it[1], int(it[2])) for it in found]
+        """What it said of responses that failed and of clients that were cut off: why, and how many, line by line."""
+        found = [WRONG.fullmatch(line) for line in self.said if not LISTENING.fullmatch(line)]
+        want(f"lines that are known: {self.said}", all(found))
+        return [(it[2], int(it[3])) for it in found if it[1] != "requests were refused"]
 
     def wrongs(self):
-        """What it said of requests that it refused and of responses that failed: what befell, why, how often in all, and
-        where it was last."""
+        """What it said of requests that it refused, of responses that failed and of clients that were cut off: what befell,
+        why, how often in all, and where it was last."""
         told = {}
         for line in self.said:
             if found := WRONG.fullmatch(line):

@@ -1,3 +1,7 @@
+pub mod DeadlineLemmas
+pub mod DueLemmas
+pub mod EarliestLemmas
 pub mod LoadLemmas
 pub mod MomentsLaws
 pub mod MomentsLemmas
+pub mod TurnLemmas

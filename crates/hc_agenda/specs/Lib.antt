@@ -1,4 +1,8 @@
-pub mod Failures
+pub mod Agendas
+pub mod Deadlines
+pub mod Due
+pub mod Earliest
+pub mod Gates
 pub mod Loads
 pub mod Moments
 pub mod MomentsKept

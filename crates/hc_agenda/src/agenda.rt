@@ -1,8 +1,13 @@
 //! What is to be done with links, and when.
 
-ghost use Rattle.std.specs.Prelude.{◌≡◌, ◌≤◌, IfSome, true};
+ghost use Rattle.std.specs.Prelude.{◌≡◌, ◌≤◌, ◌++◌, ◌∷◌, [], IfSome, None, OnErr, OnOk, Some, true, false, if◌then◌else◌, length};
+ghost use Rattle.hc_agenda.specs.Agendas.{ChangesDeadlines, ChangesOwed, ForgetsDeadlines, IsFree, IsToBeDone, NotesDeadline, NotesOwed, NotesTurns, TakesFirst, has_come, owed_in, refused_in};
+ghost use Rattle.hc_agenda.specs.Deadlines.{IsFirstNumberOf, IsFirstOf, PassesDeadline, deadlines_in, is_of_client, is_of_forward, is_of_guest};
+ghost use Rattle.hc_agenda.specs.Earliest.{IsEarliest, earlier_of};
+ghost use Rattle.hc_agenda.specs.Turns.{before_all, pushed};
 
-use crate::deadlines::{Deadline, Deadlines, Timeout, earlier};
+use crate::deadline::{Deadline, Timeout, earlier};
+use crate::deadlines::Deadlines;
 use crate::turns::Turns;
 use hc_order::Receiver;
 use std::alloc::{AllocError, Global};
@@ -26,7 +31,9 @@ pub struct Agenda {
 
 impl Agenda {
     /// Nothing is to be done.
-    pub fn new(alloc: Global) -> Self {
+    pub fn new(alloc: Global) -> Self
+        ensures { IsFree result }
+    {
         Agenda {
             turns: Turns::new(alloc),
             owed: VecDeque::new(alloc),
@@ -37,44 +44,61 @@ impl Agenda {
     }
 
     /// A link is to be heard.
-    pub fn give_turn(&mut self, link: Receiver) {
+    pub fn give_turn(&mut self, link: Receiver)
+        ensures { NotesTurns (pushed self.old.turns link) self.old self.new }
+    {
         if self.turns.push(link).is_err() {
             self.refused = true;
         }
     }
 
     /// A link is to be heard before all others, in this batch.
-    pub fn give_turn_now(&mut self, link: Receiver) {
+    pub fn give_turn_now(&mut self, link: Receiver)
+        ensures { NotesTurns (before_all self.old.turns link) self.old self.new }
+    {
         if self.turns.put_first(link).is_err() {
             self.refused = true;
         }
     }
 
     /// Something may have to be written to a link.
-    pub fn owe(&mut self, link: Receiver) -> Result<(), AllocError> {
+    pub fn owe(&mut self, link: Receiver) -> Result<(), AllocError>
+        ensures only { ChangesOwed self.old self.new }
+        ensures ok { OnOk result (owed_in self.new ≡ owed_in self.old ++ link ∷ []) }
+        ensures err { OnErr result (owed_in self.new ≡ owed_in self.old) }
+    {
         self.owed.push_back(link)?;
         Ok(())
     }
 
     /// The same; that memory is refused is told later.
-    pub fn note_owed(&mut self, link: Receiver) {
+    pub fn note_owed(&mut self, link: Receiver)
+        ensures { NotesOwed link self.old self.new }
+    {
         if self.owe(link).is_err() {
             self.refused = true;
         }
     }
 
     /// How many links there are to which something may have to be written.
-    pub fn owed(&self) -> usize {
+    pub fn owed(&self) -> usize
+        ensures { result ≡ length (owed_in self.now) }
+    {
         self.owed.len()
     }
 
     /// The first of these, which is taken out.
-    pub fn next_owed(&mut self) -> Option<Receiver> {
+    pub fn next_owed(&mut self) -> Option<Receiver>
+        ensures only { ChangesOwed self.old self.new }
+        ensures first { TakesFirst result (owed_in self.old) (owed_in self.new) }
+    {
         self.owed.pop_front()
     }
 
     /// A number is due at that millisecond, and at no other one of that time-out.
-    pub fn note(&mut self, timeout: Timeout, tick: u64, number: u64) {
+    pub fn note(&mut self, timeout: Timeout, tick: u64, number: u64)
+        ensures { NotesDeadline timeout tick number self.old self.new }
+    {
         let deadline = Deadline {
             timeout,
             tick,
@@ -86,25 +110,33 @@ impl Agenda {
     }
 
     /// How many deadlines there are.
-    pub fn deadlines(&self) -> usize {
+    pub fn deadlines(&self) -> usize
+        ensures { result ≡ deadlines_in self.now.deadlines }
+    {
         self.deadlines.len()
     }
 
     /// The first deadline of that time-out, which is taken out, if it is due by that millisecond.
     pub fn pass(&mut self, timeout: Timeout, tick: u64) -> Option<Deadline>
-        ensures { IfSome result (λ deadline. deadline.tick ≤ tick) }
+        ensures due { IfSome result (λ deadline. deadline.tick ≤ tick) }
+        ensures only { ChangesDeadlines self.old self.new }
+        ensures passes { PassesDeadline timeout tick result self.old.deadlines self.new.deadlines }
     {
         self.deadlines.pass(timeout, tick)
     }
 
     /// Clients have left who may have waited for forwards: these are looked at by that millisecond at the latest.
-    pub fn sweep_by(&mut self, tick: u64) {
+    pub fn sweep_by(&mut self, tick: u64)
+        ensures { self.new ≡ record self.old { sweep = earlier_of self.old.sweep (Some tick) } }
+    {
         self.sweep = earlier(self.sweep, Some(tick));
     }
 
     /// Whether forwards are to be looked at by that millisecond. Then they aren't again, until that is noted anew.
     pub fn takes_sweep(&mut self, tick: u64) -> bool
-        ensures { result ≡ true → IfSome self.old.sweep (λ due. due ≤ tick) }
+        ensures due { result ≡ true → IfSome self.old.sweep (λ due. due ≤ tick) }
+        ensures test { result ≡ has_come self.old.sweep tick }
+        ensures once { self.new ≡ record self.old { sweep = if result then None else self.old.sweep } }
     {
         let Some(due) = self.sweep else {
             return false;
@@ -117,12 +149,16 @@ impl Agenda {
     }
 
     /// The guest that has been silent for longest, and when its time is over.
-    pub fn longest_silent_guest(&self) -> Option<Deadline> {
+    pub fn longest_silent_guest(&self) -> Option<Deadline>
+        ensures { IsFirstOf Timeout.Guest result self.now.deadlines }
+    {
         self.deadlines.first_of(Timeout::Guest)
     }
 
     /// The client that has lingered for longest.
-    pub fn longest_lingering(&self) -> Option<u64> {
+    pub fn longest_lingering(&self) -> Option<u64>
+        ensures { IsFirstNumberOf Timeout.ClientLingering result self.now.deadlines }
+    {
         match self.deadlines.first_of(Timeout::ClientLingering) {
             Some(deadline) => Some(deadline.number),
             None => None,
@@ -130,19 +166,25 @@ impl Agenda {
     }
 
     /// A guest's link has gone, or that of one who was turned away.
-    pub fn forget_guest(&mut self, number: u64) {
+    pub fn forget_guest(&mut self, number: u64)
+        ensures { ForgetsDeadlines is_of_guest number self.old self.new }
+    {
         self.deadlines.remove(Timeout::Guest, number);
         self.deadlines.remove(Timeout::TurnedAway, number);
     }
 
     /// A client's link has gone.
-    pub fn forget_client(&mut self, number: u64) {
+    pub fn forget_client(&mut self, number: u64)
+        ensures { ForgetsDeadlines is_of_client number self.old self.new }
+    {
         self.deadlines.remove(Timeout::Client, number);
         self.deadlines.remove(Timeout::ClientLingering, number);
     }
 
     /// A forward has gone, and its link.
-    pub fn forget_forward(&mut self, forward: u64) {
+    pub fn forget_forward(&mut self, forward: u64)
+        ensures { ForgetsDeadlines is_of_forward forward self.old self.new }
+    {
         self.deadlines.remove(Timeout::Place, forward);
         self.deadlines.remove(Timeout::Connect, forward);
         self.deadlines.remove(Timeout::Origin, forward);
@@ -150,17 +192,24 @@ impl Agenda {
     }
 
     /// The millisecond at which the first deadline of all is due, or forwards are to be looked at.
-    pub fn first(&self) -> Option<u64> {
+    pub fn first(&self) -> Option<u64>
+        ensures { IsEarliest (IsToBeDone self.now) result }
+    {
         earlier(self.deadlines.first(), self.sweep)
     }
 
     /// Memory was refused for a note of what is to be done that is kept elsewhere.
-    pub fn note_refusal(&mut self) {
+    pub fn note_refusal(&mut self)
+        ensures { self.new ≡ refused_in self.old }
+    {
         self.refused = true;
     }
 
     /// Whether memory was refused for a note since that was asked last.
-    pub fn was_refused(&mut self) -> bool {
+    pub fn was_refused(&mut self) -> bool
+        ensures told { result ≡ self.old.refused }
+        ensures once { self.new ≡ record self.old { refused = false } }
+    {
         mem::replace(&mut self.refused, false)
     }
 }

@@ -1,7 +1,9 @@
 //! Whose turn it is.
 
-ghost use Rattle.std.specs.Prelude.{◌≡◌, ◌+◌, ◌↔◌, [], IsTrue, OnErr, OnOk, length};
-ghost use Rattle.hc_agenda.specs.Turns.{GivesTurn, batch_of, before_all, pushed};
+ghost use Rattle.std.specs.Prelude.{◌≡◌, ◌+◌, ◌↔◌, Bool, List, [], IsTrue, OnErr, OnOk, length};
+ghost use Rattle.std.specs.List.{Contains, count_by};
+ghost use Rattle.hc_agenda.specs.Turns.{GivesTurn, IsBatch, Step, Waiting, all_of, batch_of, before_all, pushed, put_before_in, turns_of};
+ghost use Rattle.hc_order.specs.declared.receiver.Receiver.{Receiver};
 
 use hc_order::Receiver;
 use std::alloc::{AllocError, Global};
@@ -85,3 +87,14 @@ impl Turns {
         self.waiting.is_empty()
     }
 }
+
+/// Each link that waits where a batch begins has its turn in it. None has more turns than it stood there, and was put before
+/// all others meanwhile; and where none was, they have their turns in the order in which they waited.
+pub fn a_batch_gives_each_link_its_turn()
+    ensures each { (steps : List Step) (waiting after : Waiting) → IsBatch steps waiting after → (link : Receiver)
+        → Contains (all_of waiting) link → Contains (turns_of steps) link }
+    ensures no_more { (steps : List Step) (waiting after : Waiting) → IsBatch steps waiting after → (test : Receiver → Bool)
+        → count_by test (turns_of steps) ≡ count_by test (all_of waiting) + count_by test (put_before_in steps) }
+    ensures in_order { (steps : List Step) (waiting after : Waiting) → IsBatch steps waiting after
+        → put_before_in steps ≡ [] → turns_of steps ≡ all_of waiting }
+{}

@@ -1,6 +1,6 @@
 -- Who isn't cut off stays.
-use Rattle.std.proofs.Common.{◌≡◌, ℕ, ◌==◌, Bool, true, false, ◌||◌, List, [], ◌∷◌, Some, option_map, nat_eq, refl, sym, ap, ◌∙◌, subst}
-use Rattle.std.specs.BTreeMap.{BTreeMap, get}
+use Rattle.std.proofs.Common.{append_assoc, append-nil, ◌≡◌, ℕ, Bool, true, false, ◌||◌, List, [], ◌∷◌, ◌++◌, Some, option_map, refl, sym, ap, ◌∙◌}
+use Rattle.std.specs.BTreeMap.{get}
 use Rattle.std.specs.Cmp.{unsigned_tied}
 use Rattle.std.specs.Ordering.{nat_cmp}
 use Rattle.hc_order.specs.declared.receiver.Receiver.{Receiver}
@@ -12,7 +12,10 @@ use Rattle.hc_peers.specs.Known.{unqueued}
 use Rattle.hc_peers.specs.Peers.{ChangesOnly}
 use Rattle.hc_peers.specs.declared.peers.Peers.{Peers}
 use Rattle.hc_agenda.specs.Loads.{TakesHeaviest}
-use Rattle.hc_crowd.specs.Lightening.{LightenSoFar, OthersStay, StaysAt, is_among}
+use Rattle.hc_peers.specs.Forwards.{has_link, is_waiting}
+use Rattle.hc_peers.specs.declared.client.Client.{Client as KeptClient}
+use Rattle.hc_peers.specs.declared.forward.Forward.{Forward}
+use Rattle.hc_crowd.specs.Lightening.{AddsLoads, AreLoadsOf, IsLoadOf, LightenSoFar, OthersStay, StaysAt, is_among, weighed_clients, weighed_forwards}
 
 neither : (a b : Bool) → (a || b) ≡ false → (a ≡ false) × (b ≡ false)
 neither true b e = cc
@@ -51,3 +54,48 @@ module _ {S : Type 0} where
     others = λ link other. let both = neither (is_at link load.link) (is_among link so_far.taken) other in
         stays_then link before between after (so_far.others link both.1) (now link both.0);
   }
+
+  -- ---- the links that are weighed
+
+  -- one that was cut off is passed over
+  pub passes_cut : (n : ℕ) (client : KeptClient S) (rest : List (ℕ × KeptClient S)) → client.cut ≡ true → weighed_clients ((n, client) ∷ rest) ≡ weighed_clients rest
+  passes_cut n client rest is = rw is refl
+
+  pub weighs_client : (n : ℕ) (client : KeptClient S) (rest : List (ℕ × KeptClient S)) → client.cut ≡ false → weighed_clients ((n, client) ∷ rest) ≡ Client n ∷ weighed_clients rest
+  weighs_client n client rest is = rw is refl
+
+  -- so is a forward that has no link any more
+  pub passes_lost : (f : ℕ) (forward : Forward S) (rest : List (ℕ × Forward S)) → (is_waiting forward.reaching || has_link forward.reaching) ≡ false
+      → weighed_forwards ((f, forward) ∷ rest) ≡ weighed_forwards rest
+  passes_lost f forward rest is = rw is refl
+
+  pub weighs_forward : (f : ℕ) (forward : Forward S) (rest : List (ℕ × Forward S)) → (is_waiting forward.reaching || has_link forward.reaching) ≡ true
+      → weighed_forwards ((f, forward) ∷ rest) ≡ Origin f ∷ weighed_forwards rest
+  weighs_forward f forward rest is = rw is refl
+
+  module _ (holds : Receiver → ℕ → Type 0) (peers : Peers S) where
+    pub adds_none : (before : List Load) → AddsLoads holds peers [] before before
+    adds_none before = record { loads = []; are = refl; added = sym (append-nil before) }
+
+    -- one load, and then those of the other links
+    pub adds_then : (link : Receiver) (links : List Receiver) (load : Load) (before mid after : List Load) → IsLoadOf holds peers link load → mid ≡ before ++ load ∷ []
+        → AddsLoads holds peers links mid after → AddsLoads holds peers (link ∷ links) before after
+    adds_then link links load before mid after is here more = record {
+      loads = load ∷ more.loads;
+      are = (is, more.are);
+      added = more.added ∙ ap (λ (l : List Load). l ++ more.loads) here ∙ append_assoc before (load ∷ []) more.loads;
+    }
+
+    -- the loads of some links, and of others behind them
+    both_loads : (links others : List Receiver) (loads more : List Load) → AreLoadsOf holds peers links loads → AreLoadsOf holds peers others more → AreLoadsOf holds peers (links ++ others) (loads ++ more)
+    both_loads [] others loads more are then_are = rw are then_are
+    both_loads (link ∷ links) others [] more are then_are = elim are [ ]
+    both_loads (link ∷ links) others (load ∷ loads) more are then_are = (are.0, both_loads links others loads more are.1 then_are)
+
+    pub adds_both : (links others : List Receiver) (before mid after : List Load) → AddsLoads holds peers links before mid → AddsLoads holds peers others mid after
+        → AddsLoads holds peers (links ++ others) before after
+    adds_both links others before mid after one other = record {
+      loads = one.loads ++ other.loads;
+      are = both_loads links others one.loads other.loads one.are other.are;
+      added = other.added ∙ ap (λ (l : List Load). l ++ other.loads) one.added ∙ append_assoc before one.loads other.loads;
+    }

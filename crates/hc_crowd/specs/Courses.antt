@@ -1,16 +1,24 @@
 -- How far a crowd has come, and when it serves no further client.
-use Rattle.std.specs.Prelude.{◌≡◌, ◌⊎◌, ◌≤◌, ℕ, ◌&&◌, ◌||◌, not, Bool, true, false, Option, Some, None, is_some, nat_lt, option_and_then}
+use Rattle.std.specs.Prelude.{◌≡◌, ◌⊎◌, ◌≤◌, ℕ, ◌&&◌, ◌||◌, not, Bool, true, false, Option, Some, None, is_some, nat_lt, option_and_then, Result, Ok, Err}
+use Rattle.std.specs.declared.alloc.AllocError.{AllocError}
 use Rattle.std.specs.BTreeMap.{get}
 use Rattle.std.specs.Ordering.{nat_cmp}
+use Rattle.hc_events.specs.declared.Happening.{Happening}
+use Rattle.hc_events.specs.declared.Happening.TheVariants.{ClientEnd}
 use Rattle.hc_flow.specs.Paces.{forward_due}
 use Rattle.hc_flow.specs.declared.pace.Pace.{Pace}
 use Rattle.hc_flow.specs.declared.pace.Pace.TheVariants.{Idle, Asking, Taking}
 use Rattle.hc_flow.specs.declared.patience.Patience.{Patience}
 use Rattle.hc_flow.specs.declared.progress.Progress.{Progress}
+use Rattle.hc_link_traits.specs.declared.happened.Happened.{Happened}
+use Rattle.hc_order.specs.declared.occurrence.Reason.{Reason}
+use Rattle.hc_order.specs.declared.occurrence.Reason.TheVariants.{Stop, Displaced}
+use Rattle.hc_order.specs.declared.receiver.Receiver.{Receiver}
+use Rattle.hc_order.specs.declared.receiver.Receiver.TheVariants as to
 use Rattle.hc_peers.specs.declared.client.Hearing.{Hearing}
 use Rattle.hc_peers.specs.declared.peers.Peers.{Peers}
 use Rattle.hc_peers.specs.Tables.{is_there_and}
-use Rattle.hc_peers.specs.Hearings.{HasFailedAt}
+use Rattle.hc_peers.specs.Hearings.{HasFailedAt, IsRead}
 use Rattle.hc_peers.specs.Known.{known_at}
 use Rattle.hc_peers.specs.Forwards.{is_linked_and, is_waiting, progress_at}
 use Rattle.hc_peers.specs.Peers.{is_client_overdue}
@@ -64,20 +72,37 @@ is_over_for course peers number awaited tick patience = is_late course || (not a
 abbrev pub is_over_in_any_case : {S : Type 0} → Course → Peers S → (number : ℕ) → (awaited : Bool) → (tick : ℕ) → Patience → Bool
 is_over_in_any_case course peers number awaited tick patience = is_late course || (not awaited && (is_client_overdue peers number tick patience && not (is_idle peers number)))
 
--- what ends a client has its ground in what is known of it: a stop, where it is idle; that its time is over; or that it was asked to give way, where it is idle
-pub record HasGrounds {S : Type 0} (course : Course) (giving_way : Option ℕ) (patience : Patience) (peers : Peers S) (number : ℕ) (hearing : Hearing) : Type 0 where
+-- what ends a client has its ground in what is known of it: a stop, where it is idle; that its time is over; or that it was asked to give way, where it is idle. Where its next request has begun to come, neither a stop ends it, nor does it give way
+pub record HasGrounds {S : Type 0} (course : Course) (giving_way : Option ℕ) (patience : Patience) (peers : Peers S) (number : ℕ) (begun : Bool) (hearing : Hearing) : Type 0 where
+  pub unless_begun : begun ≡ true → IsRead hearing
   pub stops : hearing.stops ≡ true → is_stop_for course peers number ≡ true
   pub late : hearing.late ≡ true → is_over_for course peers number hearing.awaited hearing.tick patience ≡ true
   pub gives_way : hearing.gives_way ≡ true → (giving_way ≡ Some number) × (is_idle peers number ≡ true)
+
+-- whether an end is for the sake of others: for a stop, or to give way
+abbrev pub is_for_others : Reason → Bool
+is_for_others Stop = true
+is_for_others Displaced = true
+is_for_others other = false
+
+-- an end for the sake of others is told only of a client of whose next request the cache may say that it holds nothing
+abbrev pub IsEndUnbegun : (Receiver → ℕ → Type 0) → Happening → Reason → Type 0
+IsEndUnbegun holds (ClientEnd n) reason = is_for_others reason ≡ true → holds (to.Client n) 0
+IsEndUnbegun holds other reason = Unit {0}
+
+abbrev pub EndsUnbegun : (Receiver → ℕ → Type 0) → Result (Option Happened) AllocError → Type 0
+EndsUnbegun holds (Ok (Some happened)) = IsEndUnbegun holds happened.of happened.reason
+EndsUnbegun holds (Ok None) = Unit {0}
+EndsUnbegun holds (Err refused) = Unit {0}
 
 -- as many clients have come as are served
 abbrev pub HaveAllCome : Option ℕ → ℕ → Type 0
 HaveAllCome None last = ⊥
 HaveAllCome (Some most) last = most ≤ last
 
--- no further client is served
-abbrev pub ServesNoMore : Option ℕ → Course → ℕ → Type 0
-ServesNoMore most course last = (stops course ≡ true) ⊎ HaveAllCome most last
+-- no further client is served, since a stop was asked, or since all have come
+abbrev pub ServesNoMore : (stop_asked : Bool) → Option ℕ → ℕ → Type 0
+ServesNoMore stop_asked most last = (stop_asked ≡ true) ⊎ HaveAllCome most last
 
 -- ---- forwards
 

@@ -3,4 +3,6 @@ pub mod Courses
 pub mod CrowdLaws
 pub mod Crowds
 pub mod Lightening
+pub mod Settled
+pub mod Tails
 pub mod Worlds

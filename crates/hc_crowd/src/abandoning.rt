@@ -5,10 +5,10 @@ ghost use Rattle.hc_crowd.specs.Abandoning.{all_left};
 
 use crate::traffic::Traffic;
 use crate::world::World;
-use hc_agenda::Failure;
+use hc_events::Trouble;
 use hc_flow::{Readiness, Stream};
 use hc_link_traits::Awaiting;
-use hc_order::Receiver;
+use hc_order::{Reason, Receiver};
 use hc_peers::Peers;
 use std::alloc::AllocError;
 
@@ -29,7 +29,8 @@ impl<W: World> Traffic<W> {
             return;
         };
         if readiness.ended || readiness.failed {
-            self.agenda.sweep_by(self.tick.saturating_add(abandoned));
+            self.agenda
+                .sweep_by(self.told.tick.saturating_add(abandoned));
         }
     }
 
@@ -42,7 +43,7 @@ impl<W: World> Traffic<W> {
     ) -> Result<(), AllocError>
         ensures kept { KeepsPeers W.Stream.has_given W.Stream.has_got self.old.peers self.new.peers }
     {
-        if !self.agenda.takes_sweep(self.tick) {
+        if !self.agenda.takes_sweep(self.told.tick) {
             return Ok(());
         }
         let mut least = 0;
@@ -66,18 +67,18 @@ impl<W: World> Traffic<W> {
     ) -> Result<(), AllocError>
         ensures kept { KeepsPeers W.Stream.has_given W.Stream.has_got self.old.peers self.new.peers }
         // A forward fails for that only where it is abandoned, by what the cache may answer.
-        ensures only { (IsAbandoned (A.needed cache.now) (A.clients cache.now) (self.old.tick - abandoned) forward self.old.peers) ⊎ (self.new.peers ≡ self.old.peers) }
+        ensures only { (IsAbandoned (A.needed cache.now) (A.clients cache.now) (self.old.told.tick - abandoned) forward self.old.peers) ⊎ (self.new.peers ≡ self.old.peers) }
     {
         if cache.is_needed(forward) {
             return Ok(());
         }
         let clients = cache.clients_of(forward)?;
-        let since = self.tick.saturating_sub(abandoned);
+        let since = self.told.tick.saturating_sub(abandoned);
         if self.have_left(clients.as_slice(), since) {
             self.abandon(forward);
             return Ok(());
         }
-        let all_left = self.have_left(clients.as_slice(), self.tick);
+        let all_left = self.have_left(clients.as_slice(), self.told.tick);
         self.look_again_if(all_left);
         Ok(())
     }
@@ -87,7 +88,7 @@ impl<W: World> Traffic<W> {
     fn abandon(&mut self, forward: u64)
         ensures kept { KeepsPeers W.Stream.has_given W.Stream.has_got self.old.peers self.new.peers }
     {
-        self.give_up(forward, Failure::Abandoned);
+        self.give_up(forward, Trouble::Abandoned, Reason::Abandoned);
         self.look_again_if(true);
     }
 
@@ -97,7 +98,8 @@ impl<W: World> Traffic<W> {
         ensures peers { self.new.peers ≡ self.old.peers }
     {
         if is_due {
-            self.agenda.sweep_by(self.tick.saturating_add(LOOKS_AGAIN));
+            self.agenda
+                .sweep_by(self.told.tick.saturating_add(LOOKS_AGAIN));
         }
     }
 

@@ -18,12 +18,12 @@ impl<W: World> Traffic<W> {
     /// Whether further clients may be served: not all of those have been opened that are served, and no stop was asked, or
     /// some had connected by then.
     pub(crate) fn serves_more(&self, limits: Limits) -> bool
-        ensures { result ≡ false → ServesNoMore limits.clients self.now.course (last_given self.now.peers) }
+        ensures { result ≡ false → ServesNoMore W.stop_asked limits.clients (last_given self.now.peers) }
     {
-        if self.course.is_late() {
+        if self.told.course.is_late() {
             return false;
         }
-        if self.course.stops() && self.listening.is_idle() {
+        if self.told.course.stops() && self.listening.is_idle() {
             return false;
         }
         match limits.clients {
@@ -134,7 +134,7 @@ impl<W: World> Traffic<W> {
         requires full { HasRoom self.old.peers limits.connections → ⊥ }
         ensures kept { KeepsPeers W.Stream.has_given W.Stream.has_got self.old.peers self.new.peers }
     {
-        if self.course.stops() {
+        if self.told.course.stops() {
             return self.turn_away(guest, limits.connections);
         }
         if self.asks_who_waits() {

@@ -6,7 +6,7 @@ use crate::limits::Limits;
 use crate::traffic::Traffic;
 use crate::troubles::Troubles;
 use crate::world::World;
-use hc_agenda::{Failures, Moments};
+use hc_agenda::Moments;
 use hc_events::{Event, Happening};
 use hc_framing::MessageText;
 use hc_link_traits::{Awaiting, Batches, Happened, Links};
@@ -86,21 +86,14 @@ impl<W: World> Crowd<W> {
         self.clock.is_behind()
     }
 
-    /// How many forwards failed, by kind.
-    pub fn failures(&self) -> Failures
-        ensures { result ≡ self.now.traffic.failures }
-    {
-        self.traffic.failures
-    }
-
-    /// What was wrong with what came, by kind.
+    /// What was wrong with what came, and with links, by kind.
     pub fn troubles(&self) -> &Troubles {
         &self.traffic.troubles
     }
 
     /// The milliseconds that the world's clock has counted which is never set, as it was last looked at.
     pub fn tick(&self) -> u64 {
-        self.traffic.tick
+        self.traffic.told.tick
     }
 
     /// How many clients have connected.
@@ -163,7 +156,7 @@ impl<W: World> Batches for Crowd<W> {
     ghost use Rattle.hc_crowd.specs.CrowdLaws.{links_are_few, none_is_open, told_in_time};
     ghost use Rattle.hc_peers.specs.Peers.{NoLinkIsLeft, last_given};
 
-    ghost over = { λ crowd. NoLinkIsLeft crowd.traffic.peers × ServesNoMore crowd.limits.clients crowd.traffic.course (last_given crowd.traffic.peers) };
+    ghost over = { λ crowd. NoLinkIsLeft crowd.traffic.peers × ServesNoMore W.stop_asked crowd.limits.clients (last_given crowd.traffic.peers) };
 
     /// It begins to connect for forwards that wait, as far as there are places. Where memory is refused for a note of what
     /// is to be done, links may wait for ever, so whoever drives the crowd should end then.

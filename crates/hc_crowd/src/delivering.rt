@@ -36,7 +36,7 @@ impl<W: World> Traffic<W> {
         // What is to be done has its place before anything is sent.
         self.owe(to)?;
         self.holding.grow(octets.len());
-        self.peers.send(to, octets, self.tick)
+        self.peers.send(to, octets, self.told.tick)
     }
 
     /// Something may have to be written to a client.
@@ -95,7 +95,7 @@ impl<W: World> Traffic<W> {
     fn keep_lingering(&mut self, forward: u64, stream: W::Stream) -> bool
         ensures kept { KeepsPeers W.Stream.has_given W.Stream.has_got self.old.peers self.new.peers }
     {
-        if self.course.is_late() {
+        if self.told.course.is_late() {
             return false;
         }
         self.peers.linger(forward, stream)
@@ -119,7 +119,7 @@ impl<W: World> Traffic<W> {
         ensures tells { (bounds : Bounds) (log : List Move) → ArePeers W.Stream.has_given W.Stream.has_got bounds self.old.peers log
             → ArePeers W.Stream.has_given W.Stream.has_got bounds self.new.peers log }
     {
-        match self.peers.write(link, self.tick) {
+        match self.peers.write(link, self.told.tick) {
             Some(Emptying::Emptied) => self.written(link),
             Some(Emptying::Failed) => self.give_turn(link),
             // It goes on once the link takes more.
@@ -137,7 +137,7 @@ impl<W: World> Traffic<W> {
             return;
         };
         self.time_client(number);
-        if self.course.stops() || self.peers.is_readable(link) {
+        if self.told.course.stops() || self.peers.is_readable(link) {
             self.give_turn(link);
         }
     }

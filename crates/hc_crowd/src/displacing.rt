@@ -55,7 +55,7 @@ impl<W: World> Traffic<W> {
         if self.giving_way.is_some() || self.listening.held_until().is_some() {
             return Displacement::Later;
         }
-        if self.tick < self.busy_until {
+        if self.told.tick < self.busy_until {
             return Displacement::Nobody;
         }
         let Some(silent) = self.longest_silent(cache, limits.patience) else {
@@ -63,7 +63,7 @@ impl<W: World> Traffic<W> {
             return Displacement::Nobody;
         };
         let due = silent.since.saturating_add(SHORTEST_SILENCE);
-        if self.tick < due {
+        if self.told.tick < due {
             self.listening.hold(due);
             return Displacement::Later;
         }

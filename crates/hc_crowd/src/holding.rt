@@ -1,20 +1,24 @@
 //! Which links are cut off where too much is held beside the store.
 
-ghost use Rattle.std.specs.Prelude.{◌+◌, ◌-◌, ◌^◌, ◌≡◌, ◌≤◌, IfOk, min};
+ghost use Rattle.std.specs.Prelude.{◌+◌, ◌-◌, ◌^◌, ◌≡◌, ◌≤◌, ◌⊎◌, ◌||◌, ◌++◌, ◌∷◌, [], IfOk, OnOk, min};
+ghost use Rattle.hc_peers.specs.Forwards.{has_link, is_waiting};
 
 use crate::traffic::Traffic;
 use crate::world::World;
-use hc_agenda::{Failure, Holding, Load, Ranking, Reckoning};
+use hc_agenda::{Holding, Load, Ranking, Reckoning};
+use hc_events::Trouble;
+use hc_flow::Stream;
 use hc_link_traits::Awaiting;
-use hc_order::Receiver;
+use hc_order::{Reason, Receiver};
+use hc_peers::Forward;
 use std::alloc::AllocError;
 
 impl<W: World> Traffic<W> {
     ghost use Rattle.hc_agenda.specs.Loads.{cuts_to, looks_above, most_held};
     ghost use Rattle.hc_peers.specs.Keeping.{KeepsPeers};
-    ghost use Rattle.hc_peers.specs.Known.{is_cut_at};
     ghost use Rattle.hc_peers.specs.Peers.{ChangesOnly};
-    ghost use Rattle.hc_crowd.specs.Lightening.{IsLightened, OthersStay};
+    ghost use Rattle.hc_agenda.specs.declared.reckoning.Load.{Load};
+    ghost use Rattle.hc_crowd.specs.Lightening.{AddsLoads, IsBounded, IsLightened, IsLoadOf, OthersStay, weighed_clients, weighed_forwards};
 
     /// Where so much may be held that it comes near the limit, each link is looked at, and those that hold most are cut off,
     /// if that has to be.
@@ -25,6 +29,7 @@ impl<W: World> Traffic<W> {
     ) -> Result<(), AllocError>
         ensures kept { KeepsPeers W.Stream.has_given W.Stream.has_got self.old.peers self.new.peers }
         ensures light { IfOk result (λ _. most_held self.new.holding ≤ looks_above limit) }
+        ensures cuts { IfOk result (λ _. (self.new.peers ≡ self.old.peers) ⊎ IsBounded (A.holds cache.now) limit self.old.peers self.new.peers) }
     {
         if !self.holding.looks(limit) {
             return Ok(());
@@ -41,49 +46,46 @@ impl<W: World> Traffic<W> {
         &self,
         cache: &A,
         reckoning: &mut Reckoning,
-    ) -> Result<(), AllocError> {
-        let mut least = 0;
-        'clients: for _ in 0..self.peers.clients.len() {
-            let Some(number) = self.peers.clients.first_from(least) else {
-                return Ok(());
-            };
-            if !self.is_cut(number) {
-                let link = Receiver::Client(number);
-                reckoning.add(load(link, self.peers.weight(link), cache.held(link)))?;
+    ) -> Result<(), AllocError>
+        ensures { OnOk result (AddsLoads (A.holds cache.now) self.now.peers (weighed_clients self.now.peers.clients.links.entries) reckoning.old.loads.items reckoning.new.loads.items) }
+    {
+        'clients: for (number, client) in self.peers.clients.iter() {
+            if client.is_cut() {
+                continue;
             }
-            least = number.saturating_add(1);
+            self.weigh(Receiver::Client(*number), cache, reckoning)?;
         }
         Ok(())
     }
 
-    /// Whether a client is there that was cut off.
-    fn is_cut(&self, number: u64) -> bool
-        ensures { result ≡ is_cut_at number self.now.peers.clients.links }
-    {
-        match self.peers.clients.get(number) {
-            Some(client) => client.is_cut(),
-            None => false,
-        }
-    }
-
-    /// What is held for each forward that wasn't lost yet.
+    /// What is held for each forward that has a link, or waits for one.
     fn weigh_forwards<A: Awaiting>(
         &self,
         cache: &A,
         reckoning: &mut Reckoning,
-    ) -> Result<(), AllocError> {
-        let mut least = 0;
-        'forwards: for _ in 0..self.peers.forwards.len() {
-            let Some(forward) = self.peers.forwards.first_from(least) else {
-                return Ok(());
-            };
-            if self.is_waiting(forward) || self.peers.is_linked(forward) {
-                let link = Receiver::Origin(forward);
-                reckoning.add(load(link, self.peers.weight(link), cache.held(link)))?;
+    ) -> Result<(), AllocError>
+        ensures { OnOk result (AddsLoads (A.holds cache.now) self.now.peers (weighed_forwards self.now.peers.forwards.links.entries) reckoning.old.loads.items reckoning.new.loads.items) }
+    {
+        'forwards: for (number, forward) in self.peers.forwards.iter() {
+            if !is_underway(forward) {
+                continue;
             }
-            least = forward.saturating_add(1);
+            self.weigh(Receiver::Origin(*number), cache, reckoning)?;
         }
         Ok(())
+    }
+
+    /// What is held for a link: what waits there, and what the cache holds of what came.
+    fn weigh<A: Awaiting>(
+        &self,
+        link: Receiver,
+        cache: &A,
+        reckoning: &mut Reckoning,
+    ) -> Result<(), AllocError>
+        ensures { OnOk result ((added : Load) × IsLoadOf (A.holds cache.now) self.now.peers link added
+            × (reckoning.new.loads.items ≡ reckoning.old.loads.items ++ added ∷ [])) }
+    {
+        reckoning.add(load(link, self.peers.weight(link), cache.held(link)))
     }
 
     /// Cuts off the links that hold most, the heaviest first, until no more is held than an eighth less than the limit.
@@ -105,7 +107,7 @@ impl<W: World> Traffic<W> {
         ensures kept { KeepsPeers W.Stream.has_given W.Stream.has_got self.old.peers self.new.peers }
         ensures others { OthersStay link self.old.peers self.new.peers }
     {
-        self.failures.count(Failure::Heavy);
+        self.troubles.note(link, Trouble::Heavy);
         self.lose_heavy(link);
         self.give_turn_now(link);
     }
@@ -117,9 +119,16 @@ impl<W: World> Traffic<W> {
     {
         match link {
             Receiver::Client(number) => self.peers.cut_off(number),
-            Receiver::Origin(forward) => self.peers.lose_origin(forward, Failure::Heavy.reason()),
+            Receiver::Origin(forward) => self.peers.lose_origin(forward, Reason::Held),
         }
     }
+}
+
+/// Whether a forward has a link, or waits for one.
+fn is_underway<S: Stream + Drop>(forward: &Forward<S>) -> bool
+    ensures { result ≡ (is_waiting forward.now.reaching || has_link forward.now.reaching) }
+{
+    forward.is_waiting() || forward.has_link()
 }
 
 /// What is held for a link: so many octets wait there, and the cache holds so many of what came.

@@ -10,6 +10,8 @@ mod displacing;
 mod holding;
 mod limits;
 mod reaching;
+mod settled;
+mod told;
 mod traffic;
 mod troubles;
 mod turning;
@@ -20,8 +22,10 @@ mod welcoming;
 mod world;
 
 pub use crowd::Crowd;
-pub use hc_agenda::Failures;
 pub use hc_flow::Patience;
 pub use limits::Limits;
+pub use settled::{
+    a_crowd_without_links_is_settled, nothing_is_left_lying, who_is_to_be_heard_has_a_turn,
+};
 pub use troubles::{Counted, Troubles, Whose};
 pub use world::{Accepted, Ready, World};

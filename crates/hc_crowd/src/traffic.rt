@@ -4,12 +4,14 @@ ghost use Rattle.std.specs.Prelude.{◌≡◌, IfOk, [], true, ℕ};
 
 use crate::course::Course;
 use crate::limits::Limits;
+use crate::told::Told;
 use crate::troubles::Troubles;
 use crate::world::World;
-use hc_agenda::{Agenda, Failures, Holding, Listening};
+use hc_agenda::{Agenda, Holding, Listening};
 use hc_order::Receiver;
 use hc_peers::Peers;
 use std::alloc::{AllocError, Global};
+use std::marker::PhantomData;
 
 /// The most octets that are read at once.
 const MOST_OCTETS: usize = 65_536;
@@ -23,10 +25,9 @@ pub(crate) struct Traffic<W: World> {
     pub(crate) buffer: Vec<u8>,
     pub(crate) agenda: Agenda,
     pub(crate) listening: Listening,
-    pub(crate) course: Course,
+    pub(crate) told: Told<W>,
     pub(crate) holding: Holding,
-    pub(crate) failures: Failures,
-    /// What was wrong with what came, as the cache told it.
+    /// What was wrong with what came, as the cache told it, and with links.
     pub(crate) troubles: Troubles,
     /// Whether something was handed to the cache, and it wasn't asked yet what was wrong with that.
     pub(crate) handed: bool,
@@ -36,8 +37,6 @@ pub(crate) struct Traffic<W: World> {
     pub(crate) busy_until: u64,
     /// Whether the cache was told of a stop.
     pub(crate) announced: bool,
-    /// The millisecond of this batch. Its links are heard, sent to and written to then.
-    pub(crate) tick: u64,
 }
 
 impl<W: World + Drop> Drop for Traffic<W> {
@@ -49,20 +48,19 @@ impl<W: World + Drop> Drop for Traffic<W> {
             buffer,
             agenda,
             listening: _,
-            course: _,
+            told,
             holding: _,
-            failures: _,
             troubles,
             handed: _,
             giving_way: _,
             busy_until: _,
             announced: _,
-            tick: _,
         } = self;
         drop(world);
         drop(peers);
         drop(buffer);
         drop(agenda);
+        drop(told);
         drop(troubles);
     }
 }
@@ -84,21 +82,25 @@ impl<W: World + Drop> Traffic<W> {
             buffer,
             agenda: Agenda::new(alloc),
             listening: Listening::new(),
-            course: Course::Serving,
+            told: Told {
+                course: Course::Serving,
+                tick,
+                by: PhantomData,
+            },
             holding: Holding::new(),
-            failures: Failures::new(),
             troubles: Troubles::new(alloc),
             handed: false,
             giving_way: None,
             busy_until: 0,
             announced: false,
-            tick,
         })
     }
 }
 
 impl<W: World> Traffic<W> {
     ghost use Rattle.hc_crowd.specs.Courses.{ServesNoMore};
+    ghost use Rattle.hc_crowd.specs.Settled.{KeepsMarks};
+    ghost use Rattle.hc_peers.specs.Forwards.{lost_at};
     ghost use Rattle.hc_peers.specs.Keeping.{KeepsPeers};
     ghost use Rattle.hc_peers.specs.Known.{KeepsKnown};
     ghost use Rattle.hc_peers.specs.Peers.{ChangesOnly, NoLinkIsLeft, last_given};
@@ -107,23 +109,27 @@ impl<W: World> Traffic<W> {
     pub(crate) fn look_at_clock(&mut self)
         ensures kept { KeepsPeers W.Stream.has_given W.Stream.has_got self.old.peers self.new.peers }
     {
-        self.tick = self.world.tick();
+        self.told.tick = self.world.tick();
     }
 
     /// A link is to be heard, if it is there and isn't to be heard already.
     pub(crate) fn give_turn(&mut self, link: Receiver)
         ensures kept { KeepsPeers W.Stream.has_given W.Stream.has_got self.old.peers self.new.peers }
         ensures known { KeepsKnown self.old.peers.clients.links self.new.peers.clients.links }
+        ensures lost { (forward : ℕ) → lost_at forward self.new.peers.forwards.links ≡ lost_at forward self.old.peers.forwards.links }
+        ensures marks { KeepsMarks self.old.peers self.old.agenda self.new.peers self.new.agenda }
     {
-        if self.peers.queue(link) {
-            self.agenda.give_turn(link);
+        if !self.peers.queue(link) {
+            return;
         }
+        self.agenda.give_turn(link);
     }
 
     /// A link is to be heard before all others, in this batch.
     pub(crate) fn give_turn_now(&mut self, link: Receiver)
         ensures kept { KeepsPeers W.Stream.has_given W.Stream.has_got self.old.peers self.new.peers }
         ensures only { ChangesOnly link self.old.peers self.new.peers }
+        ensures marks { KeepsMarks self.old.peers self.old.agenda self.new.peers self.new.agenda }
     {
         self.peers.queue(link);
         self.agenda.give_turn_now(link);
@@ -132,7 +138,7 @@ impl<W: World> Traffic<W> {
     /// Whether no further client is served, and no link is left.
     pub(crate) fn is_over(&self, limits: Limits) -> bool
         ensures gone { result ≡ true → NoLinkIsLeft self.now.peers }
-        ensures asked { result ≡ true → ServesNoMore limits.clients self.now.course (last_given self.now.peers) }
+        ensures asked { result ≡ true → ServesNoMore W.stop_asked limits.clients (last_given self.now.peers) }
     {
         !self.serves_more(limits) && self.peers.are_gone()
     }

@@ -1,8 +1,11 @@
-//! What was wrong with what came, by kind.
+//! What was wrong with what came, and with links, by kind.
 
 use hc_events::{Incident, Trouble};
 use hc_head::Target;
+use hc_link_traits::Awaiting;
+use hc_order::Receiver;
 use std::alloc::{AllocError, Global};
+use std::collections::VecDeque;
 
 /// Of what something was that was wrong.
 #[derive(Clone, Copy, PartialEq, Eq)]
@@ -11,6 +14,8 @@ pub enum Whose {
     Request,
     /// The response to a forward, which failed.
     Response,
+    /// A client's link, which was cut off.
+    Client,
 }
 
 /// How often something was wrong, and where it was last.
@@ -23,7 +28,7 @@ pub struct Counted {
     pub count: u64,
     /// The number of the connection, or of the forward, where it was last.
     pub last: u64,
-    /// What was asked for there: of a response alone, and where there was memory for that.
+    /// What was asked for there: of a response alone, where there was memory for that.
     pub target: Option<Target>,
 }
 
@@ -40,16 +45,30 @@ impl Drop for Counted {
     }
 }
 
-/// What was wrong with what came, by kind. Kinds stand in the order in which they came first.
+/// What befell a link, and isn't counted yet.
+#[derive(Clone, Copy)]
+struct Noted {
+    link: Receiver,
+    trouble: Trouble,
+}
+
+/// What was wrong with what came, and with links, by kind. Kinds stand in the order in which they came first.
 pub struct Troubles {
     alloc: Global,
     kinds: Vec<Counted>,
+    /// What befell links, the first of it first. It is counted once the cache can say what was asked for there.
+    noted: VecDeque<Noted>,
 }
 
 impl Drop for Troubles {
     fn drop(self) {
-        let Troubles { alloc: _, kinds } = self;
+        let Troubles {
+            alloc: _,
+            kinds,
+            noted,
+        } = self;
         drop(kinds);
+        drop(noted);
     }
 }
 
@@ -59,6 +78,40 @@ impl Troubles {
         Troubles {
             alloc,
             kinds: Vec::new(alloc),
+            noted: VecDeque::new(alloc),
+        }
+    }
+
+    /// A link has failed, or is cut off, for that. It is counted before the cache is told. Where memory is refused, it isn't.
+    pub(crate) fn note(&mut self, link: Receiver, trouble: Trouble) {
+        let _ = self.noted.push_back(Noted { link, trouble });
+    }
+
+    /// The link of a forward broke off, or didn't.
+    pub(crate) fn note_break(&mut self, forward: u64, broke: bool) {
+        if broke {
+            self.note(Receiver::Origin(forward), Trouble::Broken);
+        }
+    }
+
+    /// Counts what was noted of links.
+    pub(crate) fn count_noted<A: Awaiting>(&mut self, cache: &A) {
+        'noted: for _ in 0..self.noted.len() {
+            let Some(noted) = self.noted.pop_front() else {
+                return;
+            };
+            self.count_at(noted, cache);
+        }
+    }
+
+    /// Counts what befell a link. Of a forward the cache says what was asked for.
+    fn count_at<A: Awaiting>(&mut self, noted: Noted, cache: &A) {
+        match noted.link {
+            Receiver::Client(number) => self.add(Whose::Client, noted.trouble, number, None),
+            Receiver::Origin(forward) => {
+                let target = asked_of(self.alloc, cache, forward);
+                self.add(Whose::Response, noted.trouble, forward, target);
+            }
         }
     }
 
@@ -121,6 +174,14 @@ fn again(kind: &mut Counted, last: u64, target: Option<Target>) {
     kind.count = kind.count.saturating_add(1);
     kind.last = last;
     kind.target = target;
+}
+
+/// What is asked for by a forward, where the cache knows it, and there is memory for a copy.
+fn asked_of<A: Awaiting>(alloc: Global, cache: &A, forward: u64) -> Option<Target> {
+    match cache.target_of(forward) {
+        Some(target) => copy_of(alloc, target),
+        None => None,
+    }
 }
 
 /// What is asked for, where there is memory for a copy.

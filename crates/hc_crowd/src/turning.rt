@@ -1,6 +1,6 @@
 //! Links have their turns.
 
-ghost use Rattle.std.specs.Prelude.{◌≡◌, ◌&&◌, ◌||◌, not, true, Some};
+ghost use Rattle.std.specs.Prelude.{◌≡◌, ◌⊎◌, ◌&&◌, ◌||◌, not, true, false, Some, IsErr};
 
 use crate::limits::Limits;
 use crate::traffic::Traffic;
@@ -13,15 +13,16 @@ use hc_peers::{Hearing, Remainder, happened};
 use std::alloc::AllocError;
 
 impl<W: World> Traffic<W> {
-    ghost use Rattle.hc_crowd.specs.Courses.{FailsAt, HasGrounds, ends_idle, is_idle, is_over_for, is_over_in_any_case, stops};
+    ghost use Rattle.hc_crowd.specs.Courses.{EndsUnbegun, FailsAt, HasGrounds, ends_idle, is_idle, is_over_for, is_over_in_any_case, stops};
+    ghost use Rattle.hc_crowd.specs.Tails.{KeepsTail, LetsGo};
     ghost use Rattle.hc_peers.specs.declared.client.Hearing.{Hearing};
     ghost use Rattle.hc_order.specs.declared.receiver.Receiver.TheVariants.{Client, Origin};
     ghost use Rattle.hc_peers.specs.Heard.{IsAnswerOf, NoAnswer, told};
-    ghost use Rattle.hc_peers.specs.Hearings.{IsHeardFor, IsToldAtOnce};
+    ghost use Rattle.hc_peers.specs.Hearings.{ClientFailsOnly, IsHeardFor, IsToldAtOnce};
     ghost use Rattle.hc_peers.specs.Keeping.{Hears, HearsWithin, KeepsPeers};
     ghost use Rattle.hc_peers.specs.Losses.{IsLossOf};
     ghost use Rattle.hc_peers.specs.Tables.{is_there_and};
-    ghost use Rattle.hc_peers.specs.Known.{KeepsKnown, is_cut_at, is_open_at};
+    ghost use Rattle.hc_peers.specs.Known.{KeepsKnown, is_cut_at, is_open_at, known_at};
     ghost use Rattle.std.specs.BTreeMap.{get};
     ghost use Rattle.std.specs.Ordering.{nat_cmp};
 
@@ -45,6 +46,7 @@ impl<W: World> Traffic<W> {
         self.accept_all(cache, limits)?;
         self.bound_held(cache, limits.held)?;
         self.give_up_abandoned(cache, limits.abandoned)?;
+        self.troubles.count_noted(cache);
         if let Some(happened) = self.take_turns(cache, limits)? {
             return Ok(Some(happened));
         }
@@ -55,7 +57,7 @@ impl<W: World> Traffic<W> {
     fn note_incidents<A: Awaiting>(&mut self, cache: &A)
         ensures kept { KeepsPeers W.Stream.has_given W.Stream.has_got self.old.peers self.new.peers }
         ensures peers { self.new.peers ≡ self.old.peers }
-        ensures course { (self.new.course ≡ self.old.course) × (self.new.announced ≡ self.old.announced) }
+        ensures course { (self.new.told.course ≡ self.old.told.course) × (self.new.announced ≡ self.old.announced) }
     {
         if self.handed {
             self.troubles.count_all(cache.incidents());
@@ -67,10 +69,10 @@ impl<W: World> Traffic<W> {
     fn announces_stop(&mut self) -> bool
         ensures kept { KeepsPeers W.Stream.has_given W.Stream.has_got self.old.peers self.new.peers }
         ensures peers { self.new.peers ≡ self.old.peers }
-        ensures once { result ≡ (stops self.old.course && not self.old.announced) }
-        ensures told { self.new.announced ≡ (self.old.announced || stops self.old.course) }
+        ensures once { result ≡ (stops self.old.told.course && not self.old.announced) }
+        ensures told { self.new.announced ≡ (self.old.announced || stops self.old.told.course) }
     {
-        if self.announced || !self.course.stops() {
+        if self.announced || !self.told.course.stops() {
             return false;
         }
         self.announced = true;
@@ -84,6 +86,7 @@ impl<W: World> Traffic<W> {
         limits: Limits,
     ) -> Result<Option<Happened>, AllocError>
         ensures heard { Hears W.Stream.has_given W.Stream.has_got (A.awaited cache.now) result self.old.peers self.new.peers }
+        ensures unbegun { EndsUnbegun (A.holds cache.now) result }
     {
         'turns: for _ in 0..u64::MAX {
             let Some(link) = self.agenda.turns.next() else {
@@ -104,16 +107,18 @@ impl<W: World> Traffic<W> {
         limits: Limits,
     ) -> Result<Option<Happened>, AllocError>
         ensures heard { Hears W.Stream.has_given W.Stream.has_got (A.awaited cache.now) result self.old.peers self.new.peers }
+        ensures unbegun { EndsUnbegun (A.holds cache.now) result }
     {
         match link {
             Receiver::Client(number) => {
                 let awaited = cache.awaits(number);
-                let begun = cache.held(link) > 0;
+                let begun = cache.held(Receiver::Client(number)) > 0;
                 let heard = self.client_turn(number, awaited, begun, limits.patience)?;
                 Ok(happened(Receiver::Client(number), heard))
             }
             Receiver::Origin(forward) => {
                 let heard = self.origin_turn(forward, limits)?;
+                self.troubles.count_noted(cache);
                 Ok(happened(Receiver::Origin(forward), heard))
             }
         }
@@ -129,11 +134,14 @@ impl<W: World> Traffic<W> {
         patience: Patience,
     ) -> Result<Heard, AllocError>
         ensures heard { Hears W.Stream.has_given W.Stream.has_got (IsAnswerOf number awaited) (told (Client number) result) self.old.peers self.new.peers }
-        ensures reason { (hearing : Hearing) × HasGrounds self.old.course self.old.giving_way patience self.old.peers number hearing
-            × (hearing.awaited ≡ awaited) × (hearing.tick ≡ self.old.tick)
+        ensures reason { (hearing : Hearing) × HasGrounds self.old.told.course self.old.giving_way patience self.old.peers number begun hearing
+            × (hearing.awaited ≡ awaited) × (hearing.tick ≡ self.old.told.tick)
             × IsHeardFor hearing (is_cut_at number self.old.peers.clients.links) (FailsAt W.Stream.has_failed number self.old.peers self.new.peers) result }
         ensures at_once { is_open_at number self.old.peers.clients.links ≡ true → IsToldAtOnce (is_cut_at number self.old.peers.clients.links)
-            (is_over_in_any_case self.old.course self.old.peers number awaited self.old.tick patience) result }
+            (is_over_in_any_case self.old.told.course self.old.peers number awaited self.old.told.tick patience) result }
+        // Where its time isn't over, nothing that is owed to it is lost, unless memory is refused.
+        ensures tail { is_over_for self.old.told.course self.old.peers number awaited self.old.told.tick patience ≡ false
+            → IsErr result ⊎ KeepsTail W.Stream.has_failed (known_at number self.old.peers.clients.links) (known_at number self.new.peers.clients.links) }
     {
         let hearing = self.hearing_of(number, awaited, begun, patience);
         self.peers.unqueue(Receiver::Client(number));
@@ -146,10 +154,10 @@ impl<W: World> Traffic<W> {
 
     /// What decides how a client is heard in its turn.
     fn hearing_of(&self, number: u64, awaited: bool, begun: bool, patience: Patience) -> Hearing
-        ensures grounds { HasGrounds self.now.course self.now.giving_way patience self.now.peers number result }
+        ensures grounds { HasGrounds self.now.told.course self.now.giving_way patience self.now.peers number begun result }
         ensures awaited { result.awaited ≡ awaited }
-        ensures tick { result.tick ≡ self.now.tick }
-        ensures sure { is_over_in_any_case self.now.course self.now.peers number awaited self.now.tick patience ≡ true → result.late ≡ true }
+        ensures tick { result.tick ≡ self.now.told.tick }
+        ensures sure { is_over_in_any_case self.now.told.course self.now.peers number awaited self.now.told.tick patience ≡ true → result.late ≡ true }
     {
         let late = self.is_over_for(number, awaited, patience);
         let stops = self.is_stopped(number, begun);
@@ -159,20 +167,22 @@ impl<W: World> Traffic<W> {
             stops,
             gives_way,
             late,
-            tick: self.tick,
+            tick: self.told.tick,
         }
     }
 
     /// Whether a stop ends a client: one that is idle, and of whose next request nothing has come.
     fn is_stopped(&self, number: u64, begun: bool) -> bool
-        ensures { result ≡ true → (ends_idle self.now.course && is_idle self.now.peers number) ≡ true }
+        ensures idle { result ≡ true → (ends_idle self.now.told.course && is_idle self.now.peers number) ≡ true }
+        ensures begun { begun ≡ true → result ≡ false }
     {
-        self.course.ends_idle() && !begun && self.is_silent(number)
+        self.told.course.ends_idle() && !begun && self.is_silent(number)
     }
 
-    /// Whether a client was asked to give way, and is idle still.
+    /// Whether a client was asked to give way, is idle still, and nothing of its next request has come.
     fn gives_way(&self, number: u64, begun: bool) -> bool
-        ensures { result ≡ true → (self.now.giving_way ≡ Some number) × (is_idle self.now.peers number ≡ true) }
+        ensures asked { result ≡ true → (self.now.giving_way ≡ Some number) × (is_idle self.now.peers number ≡ true) }
+        ensures begun { begun ≡ true → result ≡ false }
     {
         let Some(asked) = self.giving_way else {
             return false;
@@ -200,13 +210,13 @@ impl<W: World> Traffic<W> {
     /// Whether there is no more time for a client: behind a stop, or, where no request of it awaits its reply, by how it is
     /// getting on. Of one that was idle for too long octets may have come already: these are read.
     fn is_over_for(&self, number: u64, awaited: bool, patience: Patience) -> bool
-        ensures only { result ≡ true → is_over_for self.now.course self.now.peers number awaited self.now.tick patience ≡ true }
-        ensures always { is_over_in_any_case self.now.course self.now.peers number awaited self.now.tick patience ≡ true → result ≡ true }
+        ensures only { result ≡ true → is_over_for self.now.told.course self.now.peers number awaited self.now.told.tick patience ≡ true }
+        ensures always { is_over_in_any_case self.now.told.course self.now.peers number awaited self.now.told.tick patience ≡ true → result ≡ true }
     {
-        if self.course.is_late() {
+        if self.told.course.is_late() {
             return true;
         }
-        !awaited && self.peers.is_overdue(number, self.tick, patience) && !self.is_back(number)
+        !awaited && self.peers.is_overdue(number, self.told.tick, patience) && !self.is_back(number)
     }
 
     /// Whether a client was idle, and octets of it have come.
@@ -238,6 +248,7 @@ impl<W: World> Traffic<W> {
         ensures heard { Hears W.Stream.has_given W.Stream.has_got (IsAnswerOf number hearing.awaited) (told (Client number) result) self.old.peers self.new.peers }
         ensures reason { IsHeardFor hearing (is_cut_at number self.old.peers.clients.links) (FailsAt W.Stream.has_failed number self.old.peers self.new.peers) result }
         ensures at_once { is_open_at number self.old.peers.clients.links ≡ true → IsToldAtOnce (is_cut_at number self.old.peers.clients.links) hearing.late result }
+        ensures fails { ClientFailsOnly W.Stream.has_failed ((hearing.late ≡ true) ⊎ IsErr result) (known_at number self.old.peers.clients.links) (known_at number self.new.peers.clients.links) }
     {
         let heard = self
             .peers
@@ -266,6 +277,7 @@ impl<W: World> Traffic<W> {
     /// was owed to it was written or is lost. Where its time is over, that is lost.
     fn drop_rest_of_client(&mut self, number: u64, late: bool)
         ensures kept { KeepsPeers W.Stream.has_given W.Stream.has_got self.old.peers self.new.peers }
+        ensures tail { late ≡ false → KeepsTail W.Stream.has_failed (known_at number self.old.peers.clients.links) (known_at number self.new.peers.clients.links) }
     {
         self.lose_late(number, late);
         if self.peers.discard(number, self.buffer.as_mut_slice()) {
@@ -278,6 +290,7 @@ impl<W: World> Traffic<W> {
     /// Where a client's time is over, what is owed to it is lost.
     fn lose_late(&mut self, number: u64, late: bool)
         ensures kept { KeepsPeers W.Stream.has_given W.Stream.has_got self.old.peers self.new.peers }
+        ensures only { late ≡ false → self.new.peers ≡ self.old.peers }
     {
         if late {
             self.peers.lose_client(number);
@@ -287,6 +300,7 @@ impl<W: World> Traffic<W> {
     /// Drops a client's link, where the cache has closed the connection, and all that was owed was written, or is lost.
     pub(crate) fn let_go(&mut self, number: u64)
         ensures kept { KeepsPeers W.Stream.has_given W.Stream.has_got self.old.peers self.new.peers }
+        ensures goes { LetsGo (known_at number self.old.peers.clients.links) (known_at number self.new.peers.clients.links) }
     {
         if self.peers.let_go(number) {
             self.agenda.forget_client(number);
@@ -320,9 +334,10 @@ impl<W: World> Traffic<W> {
         let was_linked = self.peers.is_linked(forward);
         let heard = self
             .peers
-            .hear_origin(forward, self.buffer.as_mut_slice(), self.tick);
+            .hear_origin(forward, self.buffer.as_mut_slice(), self.told.tick);
         self.go_on(Receiver::Origin(forward), &heard);
-        self.failures.break_off(was_linked & is_loss(&heard));
+        self.troubles
+            .note_break(forward, was_linked & is_loss(&heard));
         if !self.peers.forwards.has(forward) {
             self.free_place(forward);
         }

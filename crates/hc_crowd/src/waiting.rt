@@ -1,5 +1,7 @@
 //! Something is waited for, and what is ready or due is taken in.
 
+ghost use Rattle.std.specs.Prelude.{◌≡◌, true};
+
 use crate::course::Course;
 use crate::limits::Limits;
 use crate::traffic::Traffic;
@@ -15,6 +17,7 @@ const LONGEST_WAIT: u64 = 1_000;
 const IDLE_MAY_ASK: u64 = 1_000;
 
 impl<W: World> Traffic<W> {
+    ghost use Rattle.hc_crowd.specs.Courses.{stops};
     ghost use Rattle.hc_peers.specs.Keeping.{KeepsPeers};
 
     /// Waits until something is ready or due, and takes in what is. Then a new batch begins.
@@ -42,9 +45,9 @@ impl<W: World> Traffic<W> {
         if self.has_arrivals(limits) || self.listens_in_vain(limits) {
             return 0;
         }
-        let due = earlier(self.agenda.first(), self.course.until());
+        let due = earlier(self.agenda.first(), self.told.course.until());
         match earlier(due, self.listening.held_until()) {
-            Some(due) => due.saturating_sub(self.tick).min(LONGEST_WAIT),
+            Some(due) => due.saturating_sub(self.told.tick).min(LONGEST_WAIT),
             None => LONGEST_WAIT,
         }
     }
@@ -76,7 +79,7 @@ impl<W: World> Traffic<W> {
     fn wake_listening(&mut self)
         ensures kept { KeepsPeers W.Stream.has_given W.Stream.has_got self.old.peers self.new.peers }
     {
-        if !self.course.stops() {
+        if !self.told.course.stops() {
             self.listening.wake();
         }
     }
@@ -105,7 +108,7 @@ impl<W: World> Traffic<W> {
     fn wake(&mut self, link: Receiver, readiness: Readiness)
         ensures kept { KeepsPeers W.Stream.has_given W.Stream.has_got self.old.peers self.new.peers }
     {
-        if self.peers.learn(link, readiness, self.tick) {
+        if self.peers.learn(link, readiness, self.told.tick) {
             self.agenda.give_turn(link);
         }
     }
@@ -139,7 +142,7 @@ impl<W: World> Traffic<W> {
     fn heed_course(&mut self, limits: Limits)
         ensures kept { KeepsPeers W.Stream.has_given W.Stream.has_got self.old.peers self.new.peers }
     {
-        match self.course {
+        match self.told.course {
             Course::Serving => self.heed_world(limits),
             Course::Ceasing { idle_until, until } => self.end_idle(idle_until, until),
             Course::Draining(until) => self.heed_time(until),
@@ -154,7 +157,7 @@ impl<W: World> Traffic<W> {
         if self.world.stops() {
             // Who has connected by now is accepted still.
             self.listening.look();
-            self.course = Course::Ceasing {
+            self.told.course = Course::Ceasing {
                 idle_until: self.due_behind(limits.drain_timeout.min(IDLE_MAY_ASK)),
                 until: self.due_behind(limits.drain_timeout),
             };
@@ -163,10 +166,11 @@ impl<W: World> Traffic<W> {
 
     /// Where the time for clients that are idle is over, all are to be heard: those of whom nothing has come end.
     fn end_idle(&mut self, idle_until: u64, until: u64)
+        requires asked { stops self.old.told.course ≡ true }
         ensures kept { KeepsPeers W.Stream.has_given W.Stream.has_got self.old.peers self.new.peers }
     {
-        if self.tick >= idle_until {
-            self.course = Course::Draining(until);
+        if self.told.tick >= idle_until {
+            self.told.course = Course::Draining(until);
             self.let_all_knock();
             self.hear_clients();
         }
@@ -174,10 +178,11 @@ impl<W: World> Traffic<W> {
 
     /// Where the time behind a stop is over, all links are lost.
     fn heed_time(&mut self, until: u64)
+        requires asked { stops self.old.told.course ≡ true }
         ensures kept { KeepsPeers W.Stream.has_given W.Stream.has_got self.old.peers self.new.peers }
     {
-        if self.tick >= until {
-            self.course = Course::Late;
+        if self.told.tick >= until {
+            self.told.course = Course::Late;
             self.let_all_guests_go();
             self.drop_all_turned_away();
             self.drop_all_lingering();

@@ -5,9 +5,10 @@ ghost use Rattle.std.specs.Prelude.{◌≡◌, ◌⊎◌, ◌≤◌, true};
 use crate::limits::Limits;
 use crate::traffic::Traffic;
 use crate::world::World;
-use hc_agenda::{Deadline, Failure, Timeout};
+use hc_agenda::{Deadline, Timeout};
+use hc_events::Trouble;
 use hc_flow::{Patience, Progress};
-use hc_order::Receiver;
+use hc_order::{Reason, Receiver};
 
 /// So many milliseconds later a client whose time is over is looked at again: a request of it may await its reply.
 const LOOKS_AGAIN: u64 = 1_000;
@@ -22,7 +23,7 @@ impl<W: World> Traffic<W> {
         ensures kept { KeepsPeers W.Stream.has_given W.Stream.has_got self.old.peers self.new.peers }
     {
         if let Some(client) = self.peers.clients.get(number) {
-            let look = client.pace().next_look(self.tick, patience);
+            let look = client.pace().next_look(self.told.tick, patience);
             self.agenda.note(Timeout::Client, look, number);
         }
     }
@@ -76,7 +77,7 @@ impl<W: World> Traffic<W> {
         ensures kept { KeepsPeers W.Stream.has_given W.Stream.has_got self.old.peers self.new.peers }
     {
         'due: for _ in 0..self.agenda.deadlines() {
-            let Some(deadline) = self.agenda.pass(timeout, self.tick) else {
+            let Some(deadline) = self.agenda.pass(timeout, self.told.tick) else {
                 return;
             };
             self.end_time(deadline, limits);
@@ -85,7 +86,7 @@ impl<W: World> Traffic<W> {
 
     /// A deadline has come. Nothing is done where the link has gone or moved on.
     fn end_time(&mut self, deadline: Deadline, limits: Limits)
-        requires due { deadline.tick ≤ self.old.tick }
+        requires due { deadline.tick ≤ self.old.told.tick }
         ensures kept { KeepsPeers W.Stream.has_given W.Stream.has_got self.old.peers self.new.peers }
     {
         let number = deadline.number;
@@ -105,7 +106,7 @@ impl<W: World> Traffic<W> {
     fn look_at_client(&mut self, number: u64, patience: Patience)
         ensures kept { KeepsPeers W.Stream.has_given W.Stream.has_got self.old.peers self.new.peers }
     {
-        if self.peers.is_overdue(number, self.tick, patience) {
+        if self.peers.is_overdue(number, self.told.tick, patience) {
             self.give_turn(Receiver::Client(number));
             let look = self.due_behind(LOOKS_AGAIN);
             self.agenda.note(Timeout::Client, look, number);
@@ -121,7 +122,7 @@ impl<W: World> Traffic<W> {
     {
         if self.is_waiting(forward) {
             self.peers.leave_places(forward);
-            self.give_up(forward, Failure::Unplaced);
+            self.give_up(forward, Trouble::Unplaced, Reason::Late);
         }
     }
 
@@ -141,7 +142,7 @@ impl<W: World> Traffic<W> {
         ensures only { (is_opening_at forward self.old.peers ≡ true) ⊎ (self.new.peers ≡ self.old.peers) }
     {
         if self.is_opening(forward) {
-            self.give_up(forward, Failure::Late);
+            self.give_up(forward, Trouble::ConnectLate, Reason::Late);
         }
     }
 
@@ -158,15 +159,15 @@ impl<W: World> Traffic<W> {
     /// A forward fails whose time is over.
     fn look_at_forward(&mut self, forward: u64, patience: Patience)
         ensures kept { KeepsPeers W.Stream.has_given W.Stream.has_got self.old.peers self.new.peers }
-        ensures only { (is_forward_overdue forward self.old.peers self.old.tick patience ≡ true) ⊎ (self.new.peers ≡ self.old.peers) }
+        ensures only { (is_forward_overdue forward self.old.peers self.old.told.tick patience ≡ true) ⊎ (self.new.peers ≡ self.old.peers) }
     {
         let Some(progress) = self.progress(forward) else {
             return;
         };
-        if progress.is_silent(self.tick, patience) {
-            self.give_up(forward, Failure::Silent);
-        } else if progress.is_overdue(self.tick, patience) {
-            self.give_up(forward, Failure::Unfinished);
+        if progress.is_silent(self.told.tick, patience) {
+            self.give_up(forward, Trouble::Silent, Reason::Late);
+        } else if progress.is_overdue(self.told.tick, patience) {
+            self.give_up(forward, Trouble::Unfinished, Reason::Late);
         } else {
             self.watch_forward(forward, patience);
         }

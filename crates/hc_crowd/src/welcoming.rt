@@ -57,7 +57,7 @@ impl<W: World> Traffic<W> {
     fn keep_waiting(&mut self, guest: u64)
         ensures kept { KeepsPeers W.Stream.has_given W.Stream.has_got self.old.peers self.new.peers }
     {
-        if self.course.ends_idle() {
+        if self.told.course.ends_idle() {
             self.let_guest_go(guest);
         }
     }
@@ -120,7 +120,7 @@ impl<W: World> Traffic<W> {
             → ShowNoMore W.Stream.has_got self.new.peers log }
     {
         self.peers
-            .open(number, stream, limits.connections, self.tick)?;
+            .open(number, stream, limits.connections, self.told.tick)?;
         self.agenda.give_turn_now(Receiver::Client(number));
         self.watch_client(number, limits.patience);
         Ok(Some(Happened {

@@ -1,6 +1,6 @@
 //! What a crowd needs of the world: clients who connect, an origin to connect to, what is ready, and clocks.
 
-ghost use Rattle.std.specs.Prelude.{[], IfSome};
+ghost use Rattle.std.specs.Prelude.{◌≡◌, ℕ, Bool, true, [], IfSome};
 ghost use Rattle.hc_flow.specs.Passing.{Stays};
 ghost use Rattle.hc_crowd.specs.Worlds.{IsFreshlyAccepted};
 
@@ -35,6 +35,12 @@ pub trait World {
     /// A link to a client or to the origin.
     type Stream: Stream + Drop;
 
+    /// Whether the program is asked to stop, now or later.
+    ghost stop_asked: { Bool } = { true };
+
+    /// Whether its clock shows that millisecond, now or later.
+    ghost shows_tick: { ℕ → Bool } = { λ _. true };
+
     /// Waits until something is ready, so many milliseconds at most.
     fn wait(&mut self, most: u64);
 
@@ -67,10 +73,12 @@ pub trait World {
     fn monotonic(&self) -> Duration;
 
     /// Its whole milliseconds. Deadlines go by them.
-    fn tick(&self) -> u64;
+    fn tick(&self) -> u64
+        ensures { shows_tick result ≡ true };
 
     /// Whether the program was asked to stop.
-    fn stops(&mut self) -> bool;
+    fn stops(&mut self) -> bool
+        ensures { result ≡ true → stop_asked ≡ true };
 
     /// No further client can connect.
     fn stop_listening(&mut self);

@@ -1,9 +1,9 @@
 //! A script is played, and clients are served meanwhile.
 
-use crate::wrongs::text_of;
+use crate::wrongs::{counts_of, text_of};
 use hc_cases::Unanswered;
 use hc_core::{Core, CoreFault, CoreSettings};
-use hc_crowd::{Crowd, Failures, Limits, World};
+use hc_crowd::{Crowd, Limits, World};
 use hc_crowd_world::{Made, Noted, Notes, Play, Script, Sheet};
 use hc_drive::{DriveFault, Unwatched, serve_crowd};
 use hc_fields::Octets;
@@ -39,9 +39,9 @@ pub(crate) struct Served {
     pub(crate) idle: bool,
     /// Whether the wall clock is behind.
     pub(crate) behind: bool,
-    /// How many forwards failed, and how many links were cut off.
-    pub(crate) failures: Failures,
-    /// What was wrong with what came, as text.
+    /// How many forwards failed, and how many links were cut off, as text.
+    pub(crate) counts: String,
+    /// What was wrong with what came, and with links, as text.
     pub(crate) wrongs: String,
 }
 
@@ -53,11 +53,12 @@ impl Drop for Served {
             result: _,
             idle: _,
             behind: _,
-            failures: _,
+            counts,
             wrongs,
         } = self;
         drop(notes);
         drop(recording);
+        drop(counts);
         drop(wrongs);
     }
 }
@@ -127,7 +128,7 @@ fn serve_noted<W: World + Drop>(
         result,
         idle: core.idle(),
         behind: noted.links.is_behind(),
-        failures: noted.links.failures(),
+        counts: counts_of(alloc, noted.links.troubles())?,
         wrongs: text_of(alloc, noted.links.troubles())?,
     })
 }

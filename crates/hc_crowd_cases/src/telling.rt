@@ -208,21 +208,7 @@ fn say_served(served: &Served, tick: u64, out: &mut String) -> Result<(), AllocE
     if served.behind {
         out.push_str(", clock behind")?;
     }
-    let failures = served.failures;
-    let counts = [
-        (failures.unreached, "not reached"),
-        (failures.late, "late"),
-        (failures.broken, "broken"),
-        (failures.silent, "silent"),
-        (failures.unfinished, "unfinished"),
-        (failures.unplaced, "without a place"),
-        (failures.heavy, "cut off"),
-        (failures.abandoned, "abandoned"),
-    ];
-    'counts: for (count, what) in counts.iter() {
-        say_count(*count, what, out)?;
-    }
-    Ok(())
+    out.push_str(served.counts.as_str())
 }
 
 fn name_of(ended: Result<(), DriveFault>) -> &'static str {
@@ -234,7 +220,7 @@ fn name_of(ended: Result<(), DriveFault>) -> &'static str {
 }
 
 /// Writes how many there were of something, if there were any.
-fn say_count(count: u64, what: &str, out: &mut String) -> Result<(), AllocError> {
+pub(crate) fn say_count(count: u64, what: &str, out: &mut String) -> Result<(), AllocError> {
     if count == 0 {
         return Ok(());
     }

@@ -13,6 +13,8 @@ pub enum Trouble {
     Host,
     /// The target of the request names nothing of an origin.
     Target,
+    /// It wants a stored response alone (RFC 9111 section 5.2.1.7), and there is none that may answer it.
+    NotStored,
     /// The message has both Transfer-Encoding and Content-Length.
     BothLengths,
     /// It says wrongly how long its body is.
@@ -43,7 +45,7 @@ pub enum Trouble {
     Silent,
     /// It took too long in all.
     Unfinished,
-    /// Too much was held of it.
+    /// Too much was held beside the store, and most of it here.
     Heavy,
     /// Nobody waited for it any more.
     Abandoned,
@@ -58,6 +60,7 @@ impl Trouble {
             Trouble::HeadTooLong => "its head is too long",
             Trouble::Host => "it has not exactly one valid Host line",
             Trouble::Target => "its target names nothing of an origin",
+            Trouble::NotStored => "it wants a stored response, and none may answer it",
             Trouble::BothLengths => "it has both Transfer-Encoding and Content-Length",
             Trouble::BadLength => "it says wrongly how long its body is",
             Trouble::BadCoding => "its transfer coding is not known",
@@ -70,11 +73,11 @@ impl Trouble {
             Trouble::Unplaced => "no place at the origin came free in time",
             Trouble::Unreached => "no link to the origin could be made",
             Trouble::ConnectLate => "no link to the origin was made in time",
-            Trouble::Broken => "the link broke off",
-            Trouble::Silent => "nothing passed on the link for too long",
-            Trouble::Unfinished => "it took too long in all",
-            Trouble::Heavy => "too much was held of it",
-            Trouble::Abandoned => "nobody waited for it any more",
+            Trouble::Broken => "the link to the origin broke off",
+            Trouble::Silent => "the origin fell silent",
+            Trouble::Unfinished => "the origin took too long",
+            Trouble::Heavy => "too much was held",
+            Trouble::Abandoned => "no client waited for it any more",
         }
     }
 }

@@ -54,7 +54,11 @@ impl Incidents {
     }
 
     /// What came from the client of that connection is refused.
-    fn note_refusal(&mut self, connection: u64, trouble: Trouble) -> Result<(), AllocError>
+    pub(crate) fn note_refusal(
+        &mut self,
+        connection: u64,
+        trouble: Trouble,
+    ) -> Result<(), AllocError>
         ensures { OnOk result (self.new.noted.items ≡ self.old.noted.items ++ Refused connection trouble ∷ []) }
     {
         self.noted.push(Incident::Refused {

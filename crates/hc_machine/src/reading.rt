@@ -6,6 +6,7 @@ ghost use Rattle.hc_service.specs.Asking.{ends_connection};
 use crate::desk::Desk;
 use crate::incidents::refuse_client;
 use crate::moving::{await_reply, reply_on, send_forward};
+use hc_events::Trouble;
 use hc_framing::Message;
 use hc_head::{RequestHead, ResponseHead, Target, is_head};
 use hc_links::Arrival;
@@ -168,6 +169,10 @@ impl<S: BuildHasher> Desk<S> {
         match reaction {
             Reaction::Replies { reply, behind } => {
                 self.reply_and_validate(number, exchange, client, closes, &reply, behind, actions)
+            }
+            Reaction::Declines { reply } => {
+                self.incidents.note_refusal(c, Trouble::NotStored)?;
+                self.reply_and_validate(number, exchange, client, closes, &reply, None, actions)
             }
             Reaction::Sends {
                 request: forward,

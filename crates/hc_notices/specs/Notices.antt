@@ -3,33 +3,16 @@ use Rattle.std.specs.Prelude.{◌≡◌, ℕ, ◌==◌, List, [], ◌∷◌, ◌
 use Rattle.std.specs.Io.KnownBytes.{Appends}
 use Rattle.hc_notices.specs.declared.notice.Notice.{Notice}
 use Rattle.hc_notices.specs.declared.notice.Wrongs.{Wrongs}
-use Rattle.hc_notices.specs.declared.notice.Notice.TheVariants.{Listening, Deaf, Unreached, Late, Broken, Silent, Unfinished, Unplaced, Abandoned, Refused, Failed, Heavy, Unpolled, Behind, RecordFailed, RecordFull}
-
--- the word for so many forwards
-abbrev pub forwards_word : ℕ → List ℕ
-forwards_word count = if count == 1 then codes "forward" else codes "forwards"
-
--- the word for so many links
-abbrev pub links_word : ℕ → List ℕ
-links_word count = if count == 1 then codes "link" else codes "links"
+use Rattle.hc_notices.specs.declared.notice.Notice.TheVariants.{Listening, Deaf, Refused, Failed, CutOff, Unpolled, Behind, RecordFailed, RecordFull}
 
 -- the word for so many times
 abbrev pub times_word : ℕ → List ℕ
 times_word count = if count == 1 then codes "time" else codes "times"
 
--- the line that says what befell so many forwards, with the line feed behind it
-abbrev pub forwards_line : List ℕ → ℕ → List ℕ
-forwards_line what count = codes "hcache: " ++ (what ++ (codes ": " ++ (decimal count ++ (codes " " ++ (forwards_word count ++ 10 ∷ [])))))
-
--- the line that says what befell requests or responses, why, how often, and where it did last
+-- the line that says what befell requests, responses or clients, why, how often, and where it did last
 abbrev pub wrongs_line : List ℕ → Wrongs → List ℕ
 wrongs_line befell wrongs = codes "hcache: " ++ (befell ++ (codes ", since " ++ (wrongs.what.now ++ (codes ": "
     ++ (decimal wrongs.count ++ (codes " " ++ (times_word wrongs.count ++ (codes ", the last " ++ (wrongs.last.now ++ 10 ∷ [])))))))))
-
--- the line that says that so many links were cut off
-abbrev pub heavy_line : ℕ → List ℕ
-heavy_line count = codes "hcache: too much was held, and those who held most were cut off: "
-    ++ (decimal count ++ (codes " " ++ (links_word count ++ 10 ∷ [])))
 
 -- the line that says how often the system couldn't say what is ready
 abbrev pub unpolled_line : ℕ → List ℕ
@@ -42,16 +25,9 @@ notice_line (Listening greeting) = codes "hcache: listening at " ++ (greeting.ad
     ++ (codes ", with a store of " ++ (decimal greeting.keys
     ++ (codes " keys and " ++ (decimal greeting.bytes ++ (codes " bytes" ++ 10 ∷ []))))))))
 notice_line Deaf = codes "hcache: a signal ends it at once, since SIGTERM and SIGINT aren't blocked" ++ 10 ∷ []
-notice_line (Unreached count) = forwards_line (codes "no link to the origin could be made") count
-notice_line (Late count) = forwards_line (codes "no link to the origin was made in time") count
-notice_line (Broken count) = forwards_line (codes "the link to the origin broke off") count
-notice_line (Silent count) = forwards_line (codes "the origin fell silent") count
-notice_line (Unfinished count) = forwards_line (codes "the origin took too long") count
-notice_line (Unplaced count) = forwards_line (codes "no place at the origin came free in time") count
-notice_line (Abandoned count) = forwards_line (codes "no client waited for the response any more") count
 notice_line (Refused wrongs) = wrongs_line (codes "requests were refused") wrongs
 notice_line (Failed wrongs) = wrongs_line (codes "responses failed") wrongs
-notice_line (Heavy count) = heavy_line count
+notice_line (CutOff wrongs) = wrongs_line (codes "clients were cut off") wrongs
 notice_line (Unpolled count) = unpolled_line count
 notice_line Behind = codes "hcache: the clock was set back, and ages don't follow it: a restart is due" ++ 10 ∷ []
 notice_line (RecordFailed reason) = codes "hcache: the recording has ended, and serving goes on: " ++ (reason.now ++ 10 ∷ [])

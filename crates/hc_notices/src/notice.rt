@@ -1,7 +1,7 @@
 //! What a proxy says on standard error.
 
 ghost use Rattle.std.specs.Prelude.{◌≡◌, IfOk, string_bytes};
-ghost use Rattle.hc_notices.specs.Notices.{forwards_line, forwards_word, heavy_line, links_word, notice_line, times_word, unpolled_line, wrongs_line};
+ghost use Rattle.hc_notices.specs.Notices.{notice_line, times_word, unpolled_line, wrongs_line};
 
 use std::alloc::{AllocError, Global};
 
@@ -36,26 +36,12 @@ pub enum Notice<'a> {
     Listening(Greeting<'a>),
     /// A stop can't be heard.
     Deaf,
-    /// For so many forwards no link to the origin could be made.
-    Unreached(u64),
-    /// For so many none was made in time.
-    Late(u64),
-    /// Of so many the link broke off.
-    Broken(u64),
-    /// Of so many the origin fell silent.
-    Silent(u64),
-    /// So many took too long in all.
-    Unfinished(u64),
-    /// For so many no place came free in time.
-    Unplaced(u64),
-    /// For so many nobody waited any more.
-    Abandoned(u64),
     /// Requests of clients were refused.
     Refused(Wrongs<'a>),
-    /// Responses of the origin failed.
+    /// Responses of the origin failed, or didn't come.
     Failed(Wrongs<'a>),
-    /// So many links were cut off, since so much was held.
-    Heavy(u64),
+    /// Links of clients were cut off.
+    CutOff(Wrongs<'a>),
     /// So often the system couldn't say what is ready.
     Unpolled(u64),
     /// The wall clock is behind the moment that is told.
@@ -76,28 +62,9 @@ impl<'a> Notice<'a> {
             Notice::Deaf => format!(in alloc;
                 "hcache: a signal ends it at once, since SIGTERM and SIGINT aren't blocked\n"
             ),
-            Notice::Unreached(count) => {
-                forwards_line(alloc, "no link to the origin could be made", count)
-            }
-            Notice::Late(count) => {
-                forwards_line(alloc, "no link to the origin was made in time", count)
-            }
-            Notice::Broken(count) => forwards_line(
-                alloc,
-                "the link to the origin broke off",
-                count,
-            ),
-            Notice::Silent(count) => forwards_line(alloc, "the origin fell silent", count),
-            Notice::Unfinished(count) => forwards_line(alloc, "the origin took too long", count),
-            Notice::Unplaced(count) => {
-                forwards_line(alloc, "no place at the origin came free in time", count)
-            }
-            Notice::Abandoned(count) => {
-                forwards_line(alloc, "no client waited for the response any more", count)
-            }
             Notice::Refused(wrongs) => wrongs_line(alloc, "requests were refused", wrongs),
             Notice::Failed(wrongs) => wrongs_line(alloc, "responses failed", wrongs),
-            Notice::Heavy(count) => heavy_line(alloc, count),
+            Notice::CutOff(wrongs) => wrongs_line(alloc, "clients were cut off", wrongs),
             Notice::Unpolled(count) => unpolled_line(alloc, count),
             Notice::Behind => format!(in alloc;
                 "hcache: the clock was set back, and ages don't follow it: a restart is due\n"
@@ -127,15 +94,7 @@ fn listening_line(alloc: Global, greeting: Greeting<'_>) -> Result<String, Alloc
     )
 }
 
-/// The line that says what befell so many forwards.
-fn forwards_line(alloc: Global, what: &str, count: u64) -> Result<String, AllocError>
-    ensures { IfOk result (λ line. string_bytes line ≡ forwards_line what.now count) }
-{
-    let forwards = forwards_word(count);
-    format!(in alloc; "hcache: {what}: {count} {forwards}\n")
-}
-
-/// The line that says what befell requests or responses, why, how often, and where it did last.
+/// The line that says what befell requests, responses or clients, why, how often, and where it did last.
 fn wrongs_line(alloc: Global, befell: &str, wrongs: Wrongs<'_>) -> Result<String, AllocError>
     ensures { IfOk result (λ line. string_bytes line ≡ wrongs_line befell.now wrongs.entry) }
 {
@@ -144,36 +103,12 @@ fn wrongs_line(alloc: Global, befell: &str, wrongs: Wrongs<'_>) -> Result<String
     format!(in alloc; "hcache: {befell}, since {what}: {count} {times}, the last {last}\n")
 }
 
-/// The line that says that so many links were cut off.
-fn heavy_line(alloc: Global, count: u64) -> Result<String, AllocError>
-    ensures { IfOk result (λ line. string_bytes line ≡ heavy_line count) }
-{
-    let links = links_word(count);
-    format!(in alloc;
-        "hcache: too much was held, and those who held most were cut off: {count} {links}\n"
-    )
-}
-
 /// The line that says how often the system couldn't say what is ready.
 fn unpolled_line(alloc: Global, count: u64) -> Result<String, AllocError>
     ensures { IfOk result (λ line. string_bytes line ≡ unpolled_line count) }
 {
     let times = times_word(count);
     format!(in alloc; "hcache: the system couldn't say what is ready: {count} {times}\n")
-}
-
-/// The word for so many forwards.
-fn forwards_word(count: u64) -> &'static str
-    ensures { result.now ≡ forwards_word count }
-{
-    if count == 1 { "forward" } else { "forwards" }
-}
-
-/// The word for so many links.
-fn links_word(count: u64) -> &'static str
-    ensures { result.now ≡ links_word count }
-{
-    if count == 1 { "link" } else { "links" }
 }
 
 /// The word for so many times.

@@ -26,7 +26,6 @@ use Rattle.hc_peers.specs.Heard.{HeardInTurn, IsAnswerOf, MayBeHeard, NoAnswer, 
 use Rattle.hc_peers.specs.Keeping.{Hears, KeepsPeers}
 use Rattle.hc_peers.specs.Peers.{ArePeers, Bounds, HasFewLinks}
 use Rattle.hc_peers.specs.Shown.{ShowNoMore}
-use Rattle.hc_peers.specs.Telling.{TellsUnlessLost}
 use Rattle.hc_peers.proofs.LinkLemmas.{lent_unlinked, taken_out}
 use Rattle.hc_peers.proofs.PlaceLemmas.{few_still, same_clients, same_guests, same_places}
 use Rattle.hc_peers.proofs.ShownLemmas.{lent_shown}
@@ -164,6 +163,29 @@ module _ {S : Type 0} (has_given has_got : S → List ℕ → Type 0) (old : Pee
         tells (Ok Nothing) on bounds log t = client_told on bounds log t
         tells (Err refused) on bounds log t = client_told on bounds log t
 
+-- ---- a forward is taken out
+
+module _ {S : Type 0} (has_given has_got : S → List ℕ → Type 0) (old : Peers S) (table' : BTreeMap ℕ (Forward S)) (k : ℕ) (updates : Updates nat_cmp old.forwards.links table' k None) where
+  abbrev without_forward : Peers S
+  without_forward = record old { forwards = record { links = table' } }
+
+  gone_few : (bounds : Bounds) → HasFewLinks bounds old → HasFewLinks bounds without_forward
+  gone_few bounds =
+      few_still bounds old without_forward (same_clients old.clients) (same_guests old) (taken_out old.forwards.links table' k updates) (λ f lingers. lingers) (same_places old.places)
+
+  -- it has failed
+  forward_lost : (reason : Reason) (bounds : Bounds) (log : List Move) → ArePeers has_given has_got bounds old log
+      → TellsIfOk (ArePeers has_given has_got bounds without_forward) (told (to_origin k) (Ok (Lost reason))) log
+  forward_lost reason bounds log t = λ moment. record {
+    clients = t.clients;
+    forwards = tables.moved (IsForwardAt has_given has_got) to_origin old.forwards.links table' k None (tables.put old.forwards.links table' k None updates) log
+        (Told (occurs moment (OriginFailed k) reason) ∷ log) closing (λ n. refl) refl t.forwards;
+    guests = t.guests;
+    last = t.last;
+    count = omega (arith, t.count);
+    few = gone_few bounds t.few;
+  }
+
 -- ---- a forward's link
 
 module _ {S : Type 0} (has_given has_got : S → List ℕ → Type 0) (old : Peers S) (table' : BTreeMap ℕ (Forward S)) (k : ℕ) (forward forward' : Forward S)
@@ -200,9 +222,9 @@ module _ {S : Type 0} (has_given has_got : S → List ℕ → Type 0) (old : Pee
     forward_kept keeps = record { tells = forward_told keeps; shown = λ log s. s }
 
     -- something is heard there, but for that it has failed
-    pub forward_heard : (result : Result Heard AllocError) → ((passage : Passage) → IsForward has_given has_got forward passage → KeepsHeard (IsForward has_given has_got forward') result passage)
-        → (bounds : Bounds) (log : List Move) → ArePeers has_given has_got bounds old log → TellsUnlessLost (ArePeers has_given has_got bounds with_forward) k result log
-    forward_heard (Ok (Octets octets)) keeps bounds log t = λ moment. record {
+    pub forward_tells : (heard : Heard) → false ≡ is_lost heard → ((passage : Passage) → IsForward has_given has_got forward passage → KeepsHeard (IsForward has_given has_got forward') (Ok heard) passage)
+        → (bounds : Bounds) (log : List Move) → ArePeers has_given has_got bounds old log → TellsIfOk (ArePeers has_given has_got bounds with_forward) (told (to_origin k) (Ok heard)) log
+    forward_tells (Octets octets) works keeps bounds log t = λ moment. record {
       clients = t.clients;
       forwards = tables.moved (IsForwardAt has_given has_got) to_origin old.forwards.links table' k (Some forward') forward_lent log (Told (occurs moment (OriginBytes k octets) Peer) ∷ log) (hearing octets) (λ n. refl)
           (keeps (passage_of (to_origin k) log) (forward_its log t.forwards)) t.forwards;
@@ -211,7 +233,7 @@ module _ {S : Type 0} (has_given has_got : S → List ℕ → Type 0) (old : Pee
       count = omega (arith, t.count);
       few = forward_few bounds t.few;
     }
-    forward_heard (Ok (End reason)) keeps bounds log t = λ moment. record {
+    forward_tells (End reason) works keeps bounds log t = λ moment. record {
       clients = t.clients;
       forwards = tables.moved (IsForwardAt has_given has_got) to_origin old.forwards.links table' k (Some forward') forward_lent log (Told (occurs moment (OriginEnd k) reason) ∷ log) ending (λ n. refl)
           (keeps (passage_of (to_origin k) log) (forward_its log t.forwards)) t.forwards;
@@ -220,9 +242,17 @@ module _ {S : Type 0} (has_given has_got : S → List ℕ → Type 0) (old : Pee
       count = omega (arith, t.count);
       few = forward_few bounds t.few;
     }
-    forward_heard (Ok (Lost reason)) keeps bounds log t = forward_told keeps bounds log t
-    forward_heard (Ok Nothing) keeps bounds log t = forward_told keeps bounds log t
-    forward_heard (Err refused) keeps bounds log t = forward_told keeps bounds log t
+    forward_tells (Lost reason) works keeps bounds log t = absurd (cc)
+    forward_tells Nothing works keeps bounds log t = forward_told keeps bounds log t
+
+    -- it has failed, and is taken out
+    pub forward_gone : (heard : Heard) → true ≡ is_lost heard → ((passage : Passage) → IsForward has_given has_got forward passage → KeepsHeard (IsForward has_given has_got forward') (Ok heard) passage)
+        → (table'' : BTreeMap ℕ (Forward S)) → Updates nat_cmp table' table'' k None → (bounds : Bounds) (log : List Move) → ArePeers has_given has_got bounds old log
+        → TellsIfOk (ArePeers has_given has_got bounds (record old { forwards = record { links = table'' } })) (told (to_origin k) (Ok heard)) log
+    forward_gone (Octets octets) is keeps table'' updates bounds log t = absurd (cc)
+    forward_gone (End reason) is keeps table'' updates bounds log t = absurd (cc)
+    forward_gone (Lost reason) is keeps table'' updates bounds log t = forward_lost has_given has_got with_forward table'' k updates reason bounds log (forward_told keeps bounds log t)
+    forward_gone Nothing is keeps table'' updates bounds log t = absurd (cc)
 
   pub forward_opens : (result : Result Heard AllocError) → ((passage : Passage) → IsForward has_given has_got forward passage → IsHeardOpen passage.is_open passage.is_ended result)
       → (bounds : Bounds) (log : List Move) → ArePeers has_given has_got bounds old log → IsHeardOpen (is_underway k log) (passage_of (to_origin k) log).is_ended result
@@ -230,44 +260,7 @@ module _ {S : Type 0} (has_given has_got : S → List ℕ → Type 0) (old : Pee
       subst (λ (b : Bool). IsHeardOpen b (passage_of (to_origin k) log).is_ended result) (origin_is_open k log)
       (open_there (passage_of (to_origin k) log) (forward_its log t.forwards))
 
--- ---- a forward is taken out
-
-module _ {S : Type 0} (has_given has_got : S → List ℕ → Type 0) (old : Peers S) (table' : BTreeMap ℕ (Forward S)) (k : ℕ) (updates : Updates nat_cmp old.forwards.links table' k None) where
-  abbrev without_forward : Peers S
-  without_forward = record old { forwards = record { links = table' } }
-
-  gone_few : (bounds : Bounds) → HasFewLinks bounds old → HasFewLinks bounds without_forward
-  gone_few bounds =
-      few_still bounds old without_forward (same_clients old.clients) (same_guests old) (taken_out old.forwards.links table' k updates) (λ f lingers. lingers) (same_places old.places)
-
-  -- it has failed
-  forward_lost : (reason : Reason) (bounds : Bounds) (log : List Move) → ArePeers has_given has_got bounds old log
-      → TellsIfOk (ArePeers has_given has_got bounds without_forward) (told (to_origin k) (Ok (Lost reason))) log
-  forward_lost reason bounds log t = λ moment. record {
-    clients = t.clients;
-    forwards = tables.moved (IsForwardAt has_given has_got) to_origin old.forwards.links table' k None (tables.put old.forwards.links table' k None updates) log
-        (Told (occurs moment (OriginFailed k) reason) ∷ log) closing (λ n. refl) refl t.forwards;
-    guests = t.guests;
-    last = t.last;
-    count = omega (arith, t.count);
-    few = gone_few bounds t.few;
-  }
-
-  pub forward_gone : (heard : Heard) → true ≡ is_lost heard → (bounds : Bounds) (log : List Move) → TellsUnlessLost (ArePeers has_given has_got bounds old) k (Ok heard) log
-      → TellsIfOk (ArePeers has_given has_got bounds without_forward) (told (to_origin k) (Ok heard)) log
-  forward_gone (Octets octets) is bounds log t = absurd (cc)
-  forward_gone (End reason) is bounds log t = absurd (cc)
-  forward_gone (Lost reason) is bounds log t = forward_lost reason bounds log t
-  forward_gone Nothing is bounds log t = absurd (cc)
-
--- what was heard, but for a failure, is told
-pub forward_works : {S : Type 0} (has_given has_got : S → List ℕ → Type 0) (bounds : Bounds) (peers : Peers S) (k : ℕ) (heard : Heard) (log : List Move) → false ≡ is_lost heard
-    → TellsUnlessLost (ArePeers has_given has_got bounds peers) k (Ok heard) log → TellsIfOk (ArePeers has_given has_got bounds peers) (told (to_origin k) (Ok heard)) log
-forward_works has_given has_got bounds peers k (Octets octets) log works t = t
-forward_works has_given has_got bounds peers k (End reason) log works t = t
-forward_works has_given has_got bounds peers k (Lost reason) log works t = absurd (cc)
-forward_works has_given has_got bounds peers k Nothing log works t = t
-
+-- what is heard of a forward, behind what is told of it
 pub forward_hears : {S : Type 0} (has_given has_got : S → List ℕ → Type 0) (old new : Peers S) (k : ℕ) (result : Result Heard AllocError)
     → ((bounds : Bounds) (log : List Move) → ArePeers has_given has_got bounds old log → IsHeardOpen (is_underway k log) (passage_of (to_origin k) log).is_ended result)
     → ((bounds : Bounds) (log : List Move) → ArePeers has_given has_got bounds old log → TellsIfOk (ArePeers has_given has_got bounds new) (told (to_origin k) result) log)

@@ -1,5 +1,5 @@
 -- Links, and their places at the origin.
-use Rattle.std.proofs.Common.{◌≡◌, ℕ, ◌+◌, ◌==◌, ◌≤◌, Bool, true, false, ◌&&◌, ◌||◌, not, refl, sym, ap, ◌∙◌, subst, arith}
+use Rattle.std.proofs.Common.{◌≡◌, ℕ, ◌+◌, ◌==◌, ◌≤◌, Bool, true, false, ◌&&◌, ◌||◌, not, List, refl, sym, ap, ◌∙◌, subst, arith}
 use Rattle.std.specs.BTreeMap.{is_at}
 use Rattle.std.specs.Cmp.{unsigned_tied}
 use Rattle.std.specs.Ordering.{nat_cmp}
@@ -14,6 +14,7 @@ use Rattle.hc_peers.specs.declared.peers.Peers.{Peers}
 use Rattle.hc_peers.specs.declared.table.Table.{Table}
 use Rattle.hc_peers.specs.Forwards.{GainsNoLink, is_linked, is_linked_at}
 use Rattle.hc_peers.specs.Clients.{GainsNone}
+use Rattle.hc_peers.specs.Keeping.{KeepsPeers}
 use Rattle.hc_peers.specs.Peers.{Bounds, GainsNoGuest, HasFewLinks}
 use Rattle.hc_peers.proofs.TableLemmas.{same_number}
 
@@ -136,4 +137,13 @@ few_given bounds old places all one_more left kept few = record {
   linked = λ f linked. kept f (few.linked f linked);
   lingering = λ f lingers. kept f (few.lingering f lingers);
   apart = few.apart;
+}
+
+-- the places change, or the links that linger, and links stay few
+pub placed : {S : Type 0} (has_given has_got : S → List ℕ → Type 0) (old : Peers S) (places : Places) (lingering : Table (Lingerer S))
+    → ((bounds : Bounds) → HasFewLinks bounds old → HasFewLinks bounds (record old { places = places; lingering = lingering }))
+    → KeepsPeers has_given has_got old (record old { places = places; lingering = lingering })
+placed has_given has_got old places lingering few = record {
+  tells = λ bounds log t. record { clients = t.clients; forwards = t.forwards; guests = t.guests; last = t.last; count = t.count; few = few bounds t.few };
+  shown = λ log s. s;
 }

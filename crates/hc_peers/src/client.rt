@@ -3,9 +3,7 @@
 ghost use Rattle.std.specs.Prelude.{◌≡◌, ◌⊎◌, ◌&&◌, ◌||◌, not, Bool, true, false, [], length, Some, None, nat_lt, IsErr};
 ghost use Rattle.hc_peers.specs.Leaving.{left_behind};
 
-use hc_flow::{
-    Arrival, Emptying, Flow, Heard, Pace, Patience, Readiness, Stream, hear_flow, wants_turn,
-};
+use hc_flow::{Arrival, Emptying, Flow, Heard, Pace, Readiness, Stream, hear_flow, wants_turn};
 use hc_framing::MessageText;
 use hc_order::Reason;
 use std::alloc::{AllocError, Global};
@@ -26,8 +24,9 @@ pub struct Hearing {
 }
 
 /// One client's link, and what the cache was told of it.
+#[derive(Drop)]
 pub struct Client<S: Stream> {
-    flow: Flow<S>,
+    pub(crate) flow: Flow<S>,
     /// Whether the cache was told that the client sends no more.
     ended: bool,
     /// Whether the cache has closed the connection.
@@ -35,31 +34,16 @@ pub struct Client<S: Stream> {
     /// Whether it was cut off, since so much was held.
     cut: bool,
     /// Whether it stands among the turns.
-    queued: bool,
+    pub(crate) queued: bool,
     /// When the system first told that it has ended, or that its link has failed.
     left: Option<u64>,
     /// How it is getting on.
-    pace: Pace,
-}
-
-impl<S: Stream + Drop> Drop for Client<S> {
-    fn drop(self) {
-        let Client {
-            flow,
-            ended: _,
-            closed: _,
-            cut: _,
-            queued: _,
-            left: _,
-            pace: _,
-        } = self;
-        drop(flow);
-    }
+    pub(crate) pace: Pace,
 }
 
 impl<S: Stream> Client<S> {
     ghost use Rattle.hc_order.specs.Passages.{Passage, closing, ending, opened_with};
-    ghost use Rattle.hc_flow.specs.Paces.{due, owing, written};
+    ghost use Rattle.hc_flow.specs.Paces.{owing, written};
     ghost use Rattle.hc_flow.specs.Hearings.{FailsOnly, HasFailed, IsHeardInTurn, IsHeardOpen, IsRealEnd, KeepsHeard, KeepsSent, ends_by, wants_turn};
     ghost use Rattle.hc_peers.specs.Hearings.{IsHeardFor, IsRead, IsToldAtOnce};
     ghost use Rattle.hc_flow.specs.Flows.{TellsOwed, is_owed};
@@ -235,10 +219,10 @@ impl<S: Stream> Client<S> {
     {
         self.flow.learn(readiness);
         self.left = left_behind(readiness, tick, self.left);
-        if !wants_turn(readiness) {
-            return false;
-        }
-        self.queue()
+        let wanted = wants_turn(readiness);
+        let is_first = wanted & !self.queued;
+        self.queued = wanted | self.queued;
+        is_first
     }
 
     /// Whether it had left by that millisecond: the system had told that it has ended, or its link has failed.
@@ -315,25 +299,11 @@ impl<S: Stream> Client<S> {
         self.pace
     }
 
-    /// Whether its time is over by that millisecond, unless a request of it awaits its reply.
-    pub fn is_overdue(&self, tick: u64, patience: Patience) -> bool
-        ensures { result ≡ nat_lt (due self.now.pace patience) tick }
-    {
-        self.pace.is_overdue(tick, patience)
-    }
-
     /// Whether it was cut off.
     pub fn is_cut(&self) -> bool
         ensures { result ≡ self.now.cut }
     {
         self.cut
-    }
-
-    /// Whether octets wait to be written.
-    pub fn is_owed(&self) -> bool
-        ensures { result ≡ is_owed self.now.flow }
-    {
-        self.flow.is_owed()
     }
 
     /// How many octets of memory are held for what is owed.
@@ -355,27 +325,6 @@ impl<S: Stream> Client<S> {
         ensures { result ≡ self.now.flow.readable }
     {
         self.flow.is_readable()
-    }
-
-    /// It stands among the turns. Returns whether it didn't before.
-    pub(crate) fn queue(&mut self) -> bool
-        ensures kept { (passage : Passage) → IsClient S.has_given S.has_got self.old passage → IsClient S.has_given S.has_got self.new passage }
-        ensures first { result ≡ not self.old.queued }
-        ensures rest { self.new ≡ record self.old { queued = true } }
-        ensures got { Stays (S.has_got self.old.flow.stream) (S.has_got self.new.flow.stream) }
-    {
-        let is_first = !self.queued;
-        self.queued = true;
-        is_first
-    }
-
-    /// It stands among the turns no more.
-    pub(crate) fn unqueue(&mut self)
-        ensures kept { (passage : Passage) → IsClient S.has_given S.has_got self.old passage → IsClient S.has_given S.has_got self.new passage }
-        ensures rest { self.new ≡ record self.old { queued = false } }
-        ensures got { Stays (S.has_got self.old.flow.stream) (S.has_got self.new.flow.stream) }
-    {
-        self.queued = false;
     }
 }
 

@@ -108,7 +108,7 @@ impl<S: Stream + Drop> Peers<S> {
         ensures { result ≡ is_client_overdue self.now number tick patience }
     {
         match self.clients.links.get(&number) {
-            Some(client) => client.is_overdue(tick, patience),
+            Some(client) => client.pace.is_overdue(tick, patience),
             None => false,
         }
     }

@@ -1,6 +1,6 @@
 //! One forward, and how far the origin was reached for it.
 
-ghost use Rattle.std.specs.Prelude.{◌≡◌, ◌+◌, ◌-◌, ◌^◌, ◌<◌, ◌&&◌, ◌||◌, not, false, true, ℕ, List, [], Option, Some, None, is_some, min, unwrap_or, IfSome, IsErr, OnOk, OnErr, if◌then◌else◌};
+ghost use Rattle.std.specs.Prelude.{◌≡◌, ◌+◌, ◌-◌, ◌^◌, ◌<◌, ◌&&◌, ◌||◌, not, false, true, [], None, Some, is_some, min, unwrap_or, IsErr, OnOk, OnErr};
 
 use crate::origin_link::OriginLink;
 use hc_flow::{Emptying, Heard, Progress, Readiness, Stream, wants_turn, weight_of};
@@ -9,6 +9,7 @@ use hc_order::Reason;
 use std::alloc::{AllocError, Global};
 
 /// How far the origin was reached for a forward.
+#[derive(Drop)]
 pub(crate) enum Reaching<S: Stream> {
     /// The request waits for a link.
     Waiting(MessageText),
@@ -18,17 +19,8 @@ pub(crate) enum Reaching<S: Stream> {
     Lost(Reason),
 }
 
-impl<S: Stream + Drop> Drop for Reaching<S> {
-    fn drop(self) {
-        match self {
-            Reaching::Waiting(request) => drop(request),
-            Reaching::Linked(link) => drop(link),
-            Reaching::Lost(_) => {}
-        }
-    }
-}
-
 /// One forward, and what the cache was told of it.
+#[derive(Drop)]
 pub struct Forward<S: Stream> {
     reaching: Reaching<S>,
     /// How many links were begun for it.
@@ -38,120 +30,7 @@ pub struct Forward<S: Stream> {
     /// Whether the cache was told that the origin sends no more.
     ended: bool,
     /// Whether it stands among the turns.
-    queued: bool,
-}
-
-impl<S: Stream + Drop> Drop for Forward<S> {
-    fn drop(self) {
-        let Forward {
-            reaching,
-            attempts: _,
-            begun: _,
-            ended: _,
-            queued: _,
-        } = self;
-        drop(reaching);
-    }
-}
-
-impl<S: Stream + Drop> Reaching<S> {
-    ghost use Rattle.hc_peers.specs.Losses.{HasEnded, IsLostBy};
-    ghost use Rattle.hc_flow.specs.Hearings.{GivesHeard, IsEndOf};
-    ghost use Rattle.hc_peers.specs.Forwards.{HasUnusedLink, IsReached, StaysReached, has_link, is_linked_and, is_opening, is_waiting, progress_at};
-    ghost use Rattle.hc_flow.specs.Flows.{TellsOwed, is_owed};
-    ghost use Rattle.hc_peers.specs.Times.{IsTimed};
-
-    /// Where the request waits, a link begins to be made, and owes it. Else the stream is dropped. Where memory is refused,
-    /// it waits still.
-    fn link(&mut self, alloc: Global, stream: S, progress: Progress) -> Result<(), AllocError>
-        ensures kept { S.has_given stream [] → S.has_got stream [] → (sent heard : List ℕ) → IsReached S.has_given S.has_got self.old sent heard
-            → IsReached S.has_given S.has_got self.new sent heard }
-        ensures progress { OnOk result (progress_at self.new ≡ (if is_waiting self.old then Some progress else progress_at self.old)) }
-        ensures err { OnErr result (self.new ≡ self.old) }
-    {
-        let Reaching::Waiting(request) = self else {
-            return Ok(());
-        };
-        let link = OriginLink::opening(alloc, stream, request, progress)?;
-        *self = Reaching::Linked(link);
-        Ok(())
-    }
-
-    /// What is heard there now.
-    fn hear(&mut self, alloc: Global, buffer: &mut [u8], tick: u64) -> Result<Heard, AllocError>
-        ensures gives { (sent heard : List ℕ) → IsReached S.has_given S.has_got self.old sent heard
-            → GivesHeard (IsReached S.has_given S.has_got self.new sent) result heard }
-        ensures linked { has_link self.new ≡ has_link self.old }
-        ensures stays { StaysReached S.has_failed (IsErr result) self.old self.new }
-        ensures reason { IsLostBy S.has_failed self.old self.new result }
-        ensures over { IsEndOf (HasEnded S.has_ended self.new) result }
-        ensures timed { (begun : Option ℕ) → IsTimed begun (progress_at self.old) → IsTimed begun (progress_at self.new) }
-    {
-        match self {
-            Reaching::Waiting(_) => Ok(Heard::Nothing),
-            Reaching::Linked(link) => link.hear(alloc, buffer, tick),
-            Reaching::Lost(reason) => Ok(Heard::Lost(*reason)),
-        }
-    }
-
-    /// Writes what is owed, as far as it is taken now. Without a link nothing is returned.
-    fn write(&mut self, tick: u64) -> Option<Emptying>
-        ensures kept { (sent heard : List ℕ) → IsReached S.has_given S.has_got self.old sent heard → IsReached S.has_given S.has_got self.new sent heard }
-        ensures owed { TellsOwed result (is_linked_and self.new (λ link. is_owed link.flow)) }
-        ensures linked { has_link self.new ≡ has_link self.old }
-        ensures stays { StaysReached S.has_failed ⊥ self.old self.new }
-        ensures timed { (begun : Option ℕ) → IsTimed begun (progress_at self.old) → IsTimed begun (progress_at self.new) }
-    {
-        match self {
-            Reaching::Waiting(_) => None,
-            Reaching::Linked(link) => Some(link.write(tick)),
-            Reaching::Lost(_) => None,
-        }
-    }
-
-    /// What the system tells of the link.
-    fn learn(&mut self, readiness: Readiness)
-        ensures kept { (sent heard : List ℕ) → IsReached S.has_given S.has_got self.old sent heard → IsReached S.has_given S.has_got self.new sent heard }
-        ensures linked { has_link self.new ≡ has_link self.old }
-        ensures stays { StaysReached S.has_failed ((is_opening self.old && readiness.failed) ≡ true) self.old self.new }
-        ensures progress { progress_at self.new ≡ progress_at self.old }
-    {
-        match self {
-            Reaching::Waiting(_) => {}
-            Reaching::Linked(link) => link.learn(readiness),
-            Reaching::Lost(_) => {}
-        }
-    }
-
-    /// Takes the request back, where its link has failed before it was known to work.
-    fn take_back(&mut self) -> Option<MessageText>
-        ensures kept { (sent heard : List ℕ) → IsReached S.has_given S.has_got self.old sent heard → IsReached S.has_given S.has_got self.new sent heard }
-        ensures back { (sent heard : List ℕ) → IsReached S.has_given S.has_got self.old sent heard
-            → IfSome result (λ request. HasUnusedLink S.has_given S.has_got self.old × (heard ≡ []) × (sent ≡ request)) }
-        ensures linked { has_link self.new ≡ has_link self.old }
-        ensures none { result ≡ None → self.new ≡ self.old }
-        ensures progress { progress_at self.new ≡ progress_at self.old }
-    {
-        match self {
-            Reaching::Waiting(_) => None,
-            Reaching::Linked(link) => link.take_back(),
-            Reaching::Lost(_) => None,
-        }
-    }
-
-    /// The stream, where the link works: our half is ended, and what waits is dropped.
-    fn into_lingering(self) -> Option<S>
-        ensures { is_some result ≡ is_linked_and self (λ link. not (is_some link.spare) && not link.flow.failed) }
-    {
-        match self {
-            Reaching::Waiting(request) => {
-                drop(request);
-                None
-            }
-            Reaching::Linked(link) => link.into_lingering(),
-            Reaching::Lost(_) => None,
-        }
-    }
+    pub(crate) queued: bool,
 }
 
 impl<S: Stream + Drop> Forward<S> {
@@ -177,7 +56,8 @@ impl<S: Stream + Drop> Forward<S> {
         }
     }
 
-    /// A link begins to be made, if the request waits for one. Where memory is refused, it waits still.
+    /// A link begins to be made, and owes the request, if that waits for one. Else the stream is dropped. Where memory is
+    /// refused, the request waits still.
     pub(crate) fn link(&mut self, alloc: Global, stream: S, tick: u64) -> Result<(), AllocError>
         ensures kept { S.has_given stream [] → S.has_got stream [] → (passage : Passage) → IsForward S.has_given S.has_got self.old passage
             → IsForward S.has_given S.has_got self.new passage }
@@ -189,8 +69,12 @@ impl<S: Stream + Drop> Forward<S> {
         self.attempts = self.attempts.saturating_add(1);
         let begun = self.begun.unwrap_or(tick);
         self.begun = Some(begun);
-        self.reaching
-            .link(alloc, stream, Progress::new(begun, tick))
+        let Reaching::Waiting(request) = &self.reaching else {
+            return Ok(());
+        };
+        let link = OriginLink::opening(alloc, stream, request, Progress::new(begun, tick))?;
+        self.reaching = Reaching::Linked(link);
+        Ok(())
     }
 
     /// There is no link any more, or none could be made.
@@ -221,9 +105,15 @@ impl<S: Stream + Drop> Forward<S> {
         if self.ended {
             return Ok(Heard::Nothing);
         }
-        let heard = self.reaching.hear(alloc, buffer, tick)?;
-        self.ended = heard.is_end();
-        Ok(heard)
+        match &mut self.reaching {
+            Reaching::Waiting(_) => Ok(Heard::Nothing),
+            Reaching::Linked(link) => {
+                let heard = link.hear(alloc, buffer, tick)?;
+                self.ended = heard.is_end();
+                Ok(heard)
+            }
+            Reaching::Lost(reason) => Ok(Heard::Lost(*reason)),
+        }
     }
 
     /// Writes what is owed, as far as it is taken now. Without a link nothing is returned.
@@ -234,7 +124,11 @@ impl<S: Stream + Drop> Forward<S> {
         ensures linked { has_link self.new.reaching ≡ true → has_link self.old.reaching ≡ true }
         ensures rest { self.new ≡ record self.old { reaching = self.new.reaching } }
     {
-        self.reaching.write(tick)
+        match &mut self.reaching {
+            Reaching::Waiting(_) => None,
+            Reaching::Linked(link) => Some(link.write(tick)),
+            Reaching::Lost(_) => None,
+        }
     }
 
     /// What the system tells of the link. Returns whether the forward has to get a turn for that now.
@@ -245,11 +139,14 @@ impl<S: Stream + Drop> Forward<S> {
         ensures rest { self.new ≡ record self.old { reaching = self.new.reaching; queued = wants_turn readiness || self.old.queued } }
         ensures linked { has_link self.new.reaching ≡ true → has_link self.old.reaching ≡ true }
     {
-        self.reaching.learn(readiness);
-        if !wants_turn(readiness) {
-            return false;
-        }
-        self.queue()
+        let wanted = wants_turn(readiness);
+        let is_first = wanted & !self.queued;
+        self.queued = wanted | self.queued;
+        let Reaching::Linked(link) = &mut self.reaching else {
+            return is_first;
+        };
+        link.learn(readiness);
+        is_first
     }
 
     /// Where its link has failed before it was known to work, the request waits for another one. Returns whether it does.
@@ -262,7 +159,10 @@ impl<S: Stream + Drop> Forward<S> {
         ensures rest { self.new ≡ record self.old { reaching = self.new.reaching } }
         ensures linked { has_link self.new.reaching ≡ true → has_link self.old.reaching ≡ true }
     {
-        let Some(request) = self.reaching.take_back() else {
+        let Reaching::Linked(link) = &mut self.reaching else {
+            return false;
+        };
+        let Some(request) = link.take_back() else {
             return false;
         };
         self.reaching = Reaching::Waiting(request);
@@ -276,32 +176,18 @@ impl<S: Stream + Drop> Forward<S> {
         if self.ended {
             return None;
         }
-        self.into_reaching().into_lingering()
-    }
-
-    /// How far the origin was reached.
-    fn into_reaching(self) -> Reaching<S>
-        ensures { result ≡ self.reaching }
-    {
-        let Forward {
-            reaching,
-            attempts: _,
-            begun: _,
-            ended: _,
-            queued: _,
-        } = self;
-        reaching
+        match self.reaching {
+            Reaching::Waiting(_) => None,
+            Reaching::Linked(link) => link.into_lingering(),
+            Reaching::Lost(_) => None,
+        }
     }
 
     /// Whether the request waits for a link.
     pub fn is_waiting(&self) -> bool
         ensures { result ≡ is_waiting self.now.reaching }
     {
-        match &self.reaching {
-            Reaching::Waiting(_) => true,
-            Reaching::Linked(_) => false,
-            Reaching::Lost(_) => false,
-        }
+        matches!(self.reaching, Reaching::Waiting(_))
     }
 
     /// The link, if there is one, or one begins to be made.
@@ -320,7 +206,7 @@ impl<S: Stream + Drop> Forward<S> {
         ensures { result ≡ progress_at self.now.reaching }
     {
         match self.linked() {
-            Some(link) => Some(link.progress()),
+            Some(link) => Some(link.progress),
             None => None,
         }
     }
@@ -354,7 +240,7 @@ impl<S: Stream + Drop> Forward<S> {
         ensures { result ≡ is_linked_and self.now.reaching (λ link. is_owed link.flow) }
     {
         match self.linked() {
-            Some(link) => link.is_owed(),
+            Some(link) => link.flow.is_owed(),
             None => false,
         }
     }
@@ -375,29 +261,8 @@ impl<S: Stream + Drop> Forward<S> {
         ensures { result ≡ is_linked_and self.now.reaching (λ link. link.flow.readable) }
     {
         match self.linked() {
-            Some(link) => link.is_readable(),
+            Some(link) => link.flow.is_readable(),
             None => false,
         }
-    }
-
-    /// It stands among the turns. Returns whether it didn't before.
-    pub(crate) fn queue(&mut self) -> bool
-        ensures kept { (passage : Passage) → IsForward S.has_given S.has_got self.old passage → IsForward S.has_given S.has_got self.new passage }
-        ensures first { result ≡ not self.old.queued }
-        ensures rest { self.new ≡ record self.old { queued = true } }
-        ensures linked { has_link self.new.reaching ≡ true → has_link self.old.reaching ≡ true }
-    {
-        let is_first = !self.queued;
-        self.queued = true;
-        is_first
-    }
-
-    /// It stands among the turns no more.
-    pub(crate) fn unqueue(&mut self)
-        ensures kept { (passage : Passage) → IsForward S.has_given S.has_got self.old passage → IsForward S.has_given S.has_got self.new passage }
-        ensures rest { self.new ≡ record self.old { queued = false } }
-        ensures linked { has_link self.new.reaching ≡ true → has_link self.old.reaching ≡ true }
-    {
-        self.queued = false;
     }
 }

@@ -18,10 +18,8 @@ impl<S: Stream + Drop> Peers<S> {
     ghost use Rattle.hc_order.specs.declared.receiver.Receiver.TheVariants.{Origin};
     ghost use Rattle.hc_order.specs.Log.{Move};
     ghost use Rattle.hc_order.specs.Log.Move.{Closed};
-    ghost use Rattle.hc_order.specs.Mirrors.{is_underway};
-    ghost use Rattle.hc_order.specs.Passages.{passage_of};
-    ghost use Rattle.hc_flow.specs.Hearings.{IsEndOf, IsHeardOpen};
-    ghost use Rattle.hc_peers.specs.Forwards.{ForwardFailsOnly, HasUnusedLink, begun_at, is_linked, is_waiting_at, lingers, lost_at};
+    ghost use Rattle.hc_flow.specs.Hearings.{IsEndOf};
+    ghost use Rattle.hc_peers.specs.Forwards.{HasUnusedLink, begun_at, is_linked, is_waiting_at, lingers, lost_at};
     ghost use Rattle.hc_peers.specs.Heard.{NoAnswer, told};
     ghost use Rattle.hc_peers.specs.Keeping.{Hears, KeepsPeers};
     ghost use Rattle.hc_peers.specs.Lingering.{is_lingering};
@@ -29,7 +27,6 @@ impl<S: Stream + Drop> Peers<S> {
     ghost use Rattle.hc_peers.specs.Peers.{ArePeers, Bounds, ChangesOnly, ChangesSent};
     ghost use Rattle.hc_peers.specs.Shown.{ShowNoMore};
     ghost use Rattle.hc_peers.specs.Tables.{is_there_and};
-    ghost use Rattle.hc_peers.specs.Telling.{TellsUnlessLost};
 
     /// A forward is opened, in place of whatever there was, and is to be sorted among those that wait for places: its request
     /// waits for a link. Where memory is refused, it isn't opened.
@@ -63,37 +60,15 @@ impl<S: Stream + Drop> Peers<S> {
         ensures stays { HearsAt S.has_failed (get nat_cmp self.old.forwards.links forward) (get nat_cmp self.new.forwards.links forward) result }
         ensures only { ChangesOnly (Origin forward) self.old self.new }
     {
-        let heard = self.hear_there(forward, buffer, tick)?;
+        let Some(found) = self.forwards.links.get_mut(&forward) else {
+            return Ok(Heard::Nothing);
+        };
+        let heard = found.hear(self.alloc, buffer, tick)?;
         if !heard.is_lost() {
             return Ok(heard);
         }
         self.forwards.links.remove(&forward);
         Ok(heard)
-    }
-
-    /// The same, where one that has failed is left there.
-    fn hear_there(
-        &mut self,
-        forward: u64,
-        buffer: &mut [u8],
-        tick: u64,
-    ) -> Result<Heard, AllocError>
-        ensures tells { (bounds : Bounds) (log : List Move) → ArePeers S.has_given S.has_got bounds self.old log
-            → TellsUnlessLost (ArePeers S.has_given S.has_got bounds self.new) forward result log }
-        ensures shown { (log : List Move) → ShowNoMore S.has_got self.old log → ShowNoMore S.has_got self.new log }
-        // Nothing of one that isn't open, nor behind its end.
-        ensures opens { (bounds : Bounds) (log : List Move) → ArePeers S.has_given S.has_got bounds self.old log
-            → IsHeardOpen (is_underway forward log) (passage_of (Origin forward) log).is_ended result }
-        ensures reason { IsLossOf (get nat_cmp self.old.forwards.links forward) result }
-        // An end is told only where the origin has ended what it sends, so that no response counts as whole by a failure.
-        ensures over { IsEndOf (HasEndedAt S.has_ended (get nat_cmp self.new.forwards.links forward)) result }
-        ensures stays { ForwardFailsOnly S.has_failed (IsErr result) (get nat_cmp self.old.forwards.links forward) (get nat_cmp self.new.forwards.links forward) }
-        ensures only { ChangesOnly (Origin forward) self.old self.new }
-    {
-        match self.forwards.links.get_mut(&forward) {
-            Some(found) => found.hear(self.alloc, buffer, tick),
-            None => Ok(Heard::Nothing),
-        }
     }
 
     /// The cache has closed a forward. What waits to be written is dropped. Where its link works, and the origin hasn't

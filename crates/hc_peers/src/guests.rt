@@ -1,6 +1,6 @@
 //! Those who have connected, and of whom no octet has come.
 
-ghost use Rattle.std.specs.Prelude.{◌≡◌, ◌==◌, ◌≤◌, ◌+◌, ◌∷◌, ◌++◌, ◌&&◌, not, true, false, ℕ, [], length, is_some, OnOk, OnErr, if◌then◌else◌};
+ghost use Rattle.std.specs.Prelude.{◌≡◌, ◌≤◌, ◌+◌, ◌∷◌, ◌++◌, ◌&&◌, not, true, false, ℕ, [], length, is_some, OnOk, OnErr, if◌then◌else◌};
 
 use crate::table::Table;
 use hc_flow::{Presence, Stream};
@@ -8,49 +8,22 @@ use std::alloc::{AllocError, Global};
 use std::collections::VecDeque;
 
 /// One who has connected, and of whom no octet was read.
+#[derive(Drop)]
 struct Guest<S: Stream> {
     stream: S,
     /// Whether it stands among those who knock.
     knocks: bool,
 }
 
-impl<S: Stream + Drop> Drop for Guest<S> {
-    fn drop(self) {
-        let Guest { stream, knocks: _ } = self;
-        drop(stream);
-    }
-}
-
-impl<S: Stream> Guest<S> {
-    /// Its link.
-    fn into_stream(self) -> S
-        ensures { result ≡ self.stream }
-    {
-        let Guest { stream, knocks: _ } = self;
-        stream
-    }
-}
-
 /// Those who have connected, and of whom no octet has come, by numbers of their own: the cache doesn't know of them. A
 /// guest who may have octets knocks, and is to be looked at then.
+#[derive(Drop)]
 pub struct Guests<S: Stream> {
     table: Table<Guest<S>>,
     /// Those who knock, the one that has done so for longest first. Some of them may have gone.
     knocking: VecDeque<u64>,
     /// The number that was given last: 0 where none was.
     last: u64,
-}
-
-impl<S: Stream + Drop> Drop for Guests<S> {
-    fn drop(self) {
-        let Guests {
-            table,
-            knocking,
-            last: _,
-        } = self;
-        drop(table);
-        drop(knocking);
-    }
 }
 
 impl<S: Stream + Drop> Guests<S> {
@@ -132,13 +105,6 @@ impl<S: Stream + Drop> Guests<S> {
         Ok(())
     }
 
-    /// Whether one knocks.
-    pub fn is_anyone_knocking(&self) -> bool
-        ensures { result ≡ not (length self.now.knocking.items == 0) }
-    {
-        !self.knocking.is_empty()
-    }
-
     /// The one that has knocked for longest, who knocks no more. It may have gone.
     pub fn next_knocking(&mut self) -> Option<u64>
         ensures first { GivesKnock result self.old self.new }
@@ -185,7 +151,7 @@ impl<S: Stream + Drop> Guests<S> {
         ensures last { self.new.last ≡ self.old.last }
     {
         match self.table.links.remove(&number) {
-            Some(guest) => Some(guest.into_stream()),
+            Some(guest) => Some(guest.stream),
             None => None,
         }
     }

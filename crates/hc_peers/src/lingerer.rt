@@ -1,21 +1,15 @@
 //! A link to the origin that lingers.
 
-ghost use Rattle.std.specs.Prelude.{◌≡◌, not, true};
+ghost use Rattle.std.specs.Prelude.{◌≡◌};
 
 use hc_flow::{Arrival, Stream};
 
 /// A link to the origin of a forward that was closed: what comes there is dropped, until the origin ends it.
+#[derive(Drop)]
 pub struct Lingerer<S: Stream> {
     stream: S,
     /// Whether it stands among the turns.
-    queued: bool,
-}
-
-impl<S: Stream + Drop> Drop for Lingerer<S> {
-    fn drop(self) {
-        let Lingerer { stream, queued: _ } = self;
-        drop(stream);
-    }
+    pub(crate) queued: bool,
 }
 
 /// What came of a read of a link that lingers.
@@ -38,16 +32,6 @@ impl<S: Stream> Lingerer<S> {
             stream,
             queued: false,
         }
-    }
-
-    /// It stands among the turns. Returns whether it didn't before.
-    pub(crate) fn queue(&mut self) -> bool
-        ensures first { result ≡ not self.old.queued }
-        ensures rest { self.new ≡ record self.old { queued = true } }
-    {
-        let is_first = !self.queued;
-        self.queued = true;
-        is_first
     }
 
     /// Reads what comes there, once, and drops it. It stands among the turns no more.

@@ -7,6 +7,7 @@ use hc_flow::{Emptying, Readiness, Stream};
 use hc_framing::MessageText;
 use hc_order::Receiver;
 use std::alloc::AllocError;
+use std::mem;
 
 impl<S: Stream + Drop> Peers<S> {
     ghost use Rattle.hc_flow.specs.Flows.{TellsOwed};
@@ -86,11 +87,11 @@ impl<S: Stream + Drop> Peers<S> {
     {
         match link {
             Receiver::Client(number) => match self.clients.links.get_mut(&number) {
-                Some(client) => client.queue(),
+                Some(client) => !mem::replace(&mut client.queued, true),
                 None => false,
             },
             Receiver::Origin(number) => match self.forwards.links.get_mut(&number) {
-                Some(forward) => forward.queue(),
+                Some(forward) => !mem::replace(&mut forward.queued, true),
                 None => false,
             },
         }
@@ -105,11 +106,11 @@ impl<S: Stream + Drop> Peers<S> {
     {
         match link {
             Receiver::Client(number) => match self.clients.links.get_mut(&number) {
-                Some(client) => client.unqueue(),
+                Some(client) => client.queued = false,
                 None => {}
             },
             Receiver::Origin(number) => match self.forwards.links.get_mut(&number) {
-                Some(forward) => forward.unqueue(),
+                Some(forward) => forward.queued = false,
                 None => {}
             },
         }
@@ -137,7 +138,7 @@ impl<S: Stream + Drop> Peers<S> {
     {
         match link {
             Receiver::Client(number) => match self.clients.links.get(&number) {
-                Some(client) => client.is_owed(),
+                Some(client) => client.flow.is_owed(),
                 None => false,
             },
             Receiver::Origin(number) => match self.forwards.links.get(&number) {

@@ -8,24 +8,13 @@ use hc_order::Reason;
 use std::alloc::{AllocError, Global};
 
 /// A link to the origin, and the request, as long as the link isn't known to work.
+#[derive(Drop)]
 pub(crate) struct OriginLink<S: Stream> {
-    flow: Flow<S>,
+    pub(crate) flow: Flow<S>,
     /// The request once more: behind a link that fails before it is known to work, another one is tried.
     spare: Option<MessageText>,
     /// How the forward is getting on there.
-    progress: Progress,
-}
-
-impl<S: Stream + Drop> Drop for OriginLink<S> {
-    fn drop(self) {
-        let OriginLink {
-            flow,
-            spare,
-            progress: _,
-        } = self;
-        drop(flow);
-        drop(spare);
-    }
+    pub(crate) progress: Progress,
 }
 
 impl<S: Stream + Drop> OriginLink<S> {
@@ -77,25 +66,12 @@ impl<S: Stream + Drop> OriginLink<S> {
         ensures rest { self.new ≡ record self.old { flow = self.new.flow; progress = progress_behind result tick self.old.progress } }
         ensures begun { self.new.progress.begun ≡ self.old.progress.begun }
     {
-        if !self.is_opening() {
-            return self.read(alloc, buffer, tick);
+        if self.is_opening() {
+            if self.flow.has_failed() {
+                return Ok(Heard::Lost(Reason::Reset));
+            }
+            return Ok(Heard::Nothing);
         }
-        if self.flow.has_failed() {
-            return Ok(Heard::Lost(Reason::Reset));
-        }
-        Ok(Heard::Nothing)
-    }
-
-    /// What a read brings, where it is known to work.
-    fn read(&mut self, alloc: Global, buffer: &mut [u8], tick: u64) -> Result<Heard, AllocError>
-        ensures heard { is_some self.old.spare ≡ false → (sent heard : List ℕ) → IsLinked S.has_given S.has_got self.old sent heard
-            → GivesHeard (IsLinked S.has_given S.has_got self.new sent) result heard }
-        ensures reason { IsRead (HasFailed S.has_failed self.old.flow self.new.flow) result }
-        ensures over { IsEndOf (S.has_ended self.new.flow.stream) result }
-        ensures fails { FailsOnly S.has_failed (IsErr result) self.old.flow self.new.flow }
-        ensures rest { self.new ≡ record self.old { flow = self.new.flow; progress = progress_behind result tick self.old.progress } }
-        ensures begun { self.new.progress.begun ≡ self.old.progress.begun }
-    {
         let heard = hear_flow(alloc, &mut self.flow, buffer)?;
         self.progress = self.progress.moved(heard.has_octets(), tick);
         Ok(heard)
@@ -109,24 +85,12 @@ impl<S: Stream + Drop> OriginLink<S> {
         ensures rest { self.new ≡ record self.old { flow = self.new.flow; progress = progress_written result (length self.old.flow.outbox) (length self.new.flow.outbox) tick self.old.progress } }
         ensures begun { self.new.progress.begun ≡ self.old.progress.begun }
     {
-        if !self.is_opening() {
-            return self.write_on(tick);
+        if self.is_opening() {
+            if self.flow.has_failed() {
+                return Emptying::Failed;
+            }
+            return Emptying::Later;
         }
-        if self.flow.has_failed() {
-            return Emptying::Failed;
-        }
-        Emptying::Later
-    }
-
-    /// The same, where it is known to work.
-    fn write_on(&mut self, tick: u64) -> Emptying
-        ensures kept { is_some self.old.spare ≡ false → (sent heard : List ℕ) → IsLinked S.has_given S.has_got self.old sent heard
-            → IsLinked S.has_given S.has_got self.new sent heard }
-        ensures owed { TellsOwed (Some result) (is_owed self.new.flow) }
-        ensures fails { FailsOnly S.has_failed ⊥ self.old.flow self.new.flow }
-        ensures rest { self.new ≡ record self.old { flow = self.new.flow; progress = progress_written result (length self.old.flow.outbox) (length self.new.flow.outbox) tick self.old.progress } }
-        ensures begun { self.new.progress.begun ≡ self.old.progress.begun }
-    {
         let before = self.flow.held();
         let emptying = self.flow.write();
         let still = self.flow.held();
@@ -178,36 +142,9 @@ impl<S: Stream + Drop> OriginLink<S> {
         if self.flow.has_failed() {
             return None;
         }
-        let mut stream = self.into_flow().into_stream();
+        let mut stream = self.flow.into_stream();
         stream.end();
         Some(stream)
-    }
-
-    /// The stream, and what waits to be written there.
-    fn into_flow(self) -> Flow<S>
-        ensures { result ≡ self.flow }
-    {
-        let OriginLink {
-            flow,
-            spare,
-            progress: _,
-        } = self;
-        drop(spare);
-        flow
-    }
-
-    /// How the forward is getting on there.
-    pub(crate) fn progress(&self) -> Progress
-        ensures { result ≡ self.now.progress }
-    {
-        self.progress
-    }
-
-    /// Whether octets wait to be written.
-    pub(crate) fn is_owed(&self) -> bool
-        ensures { result ≡ is_owed self.now.flow }
-    {
-        self.flow.is_owed()
     }
 
     /// How many octets of memory are held for what is owed, and for the request.
@@ -218,13 +155,6 @@ impl<S: Stream + Drop> OriginLink<S> {
             Some(request) => self.flow.weight().saturating_add(weight_of(request)),
             None => self.flow.weight(),
         }
-    }
-
-    /// Whether a read may bring something now.
-    pub(crate) fn is_readable(&self) -> bool
-        ensures { result ≡ self.now.flow.readable }
-    {
-        self.flow.is_readable()
     }
 }
 

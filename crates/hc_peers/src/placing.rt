@@ -7,6 +7,7 @@ use crate::peers::Peers;
 use hc_agenda::Candidate;
 use hc_flow::Stream;
 use std::alloc::AllocError;
+use std::mem;
 
 impl<S: Stream + Drop> Peers<S> {
     ghost use Rattle.std.specs.BTreeMap.{get, is_at};
@@ -53,7 +54,7 @@ impl<S: Stream + Drop> Peers<S> {
         ensures rest { self.new ≡ record self.old { lingering = self.new.lingering } }
     {
         match self.lingering.links.get_mut(&forward) {
-            Some(lingerer) => lingerer.queue(),
+            Some(lingerer) => !mem::replace(&mut lingerer.queued, true),
             None => false,
         }
     }

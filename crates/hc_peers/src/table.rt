@@ -4,17 +4,12 @@ ghost use Rattle.std.specs.Prelude.{◌≡◌, ◌≤◌, ◌+◌, ℕ, length, 
 
 use std::alloc::{AllocError, Global};
 use std::collections::BTreeMap;
+use std::collections::btree_map::Iter;
 
 /// Links of a kind, by number. Within this crate it lends one of them at a time, and all others stay as they are.
+#[derive(Drop)]
 pub struct Table<L> {
     pub(crate) links: BTreeMap<u64, L>,
-}
-
-impl<L: Drop> Drop for Table<L> {
-    fn drop(self) {
-        let Table { links } = self;
-        drop(links);
-    }
 }
 
 impl<L> Table<L> {
@@ -65,6 +60,13 @@ impl<L> Table<L> {
     {
         self.links.insert(number, link)?;
         Ok(())
+    }
+
+    /// All of them, in the order of their numbers.
+    pub fn iter(&self) -> Iter<'_, u64, L>
+        ensures { result ≡ self.now.links.entries }
+    {
+        self.links.iter()
     }
 
     /// The least number of one, from that number on.

@@ -1,6 +1,6 @@
 //! What is heard of a link, as it is told.
 
-ghost use Rattle.std.specs.Prelude.{◌≡◌, Ok};
+ghost use Rattle.std.specs.Prelude.{◌≡◌, Ok, Some};
 ghost use Rattle.hc_peers.specs.Heard.{told, told_of_client, told_of_forward};
 
 use hc_events::Happening;
@@ -23,14 +23,8 @@ fn of_client(number: u64, heard: Heard) -> Option<Happened>
     ensures { result ≡ told_of_client number heard }
 {
     match heard {
-        Heard::Octets(octets) => Some(Happened {
-            of: Happening::ClientBytes(number, octets),
-            reason: Reason::Peer,
-        }),
-        Heard::End(reason) => Some(Happened {
-            of: Happening::ClientEnd(number),
-            reason,
-        }),
+        Heard::Octets(octets) => happening(Happening::ClientBytes(number, octets), Reason::Peer),
+        Heard::End(reason) => happening(Happening::ClientEnd(number), reason),
         Heard::Lost(_) => None,
         Heard::Nothing => None,
     }
@@ -41,18 +35,16 @@ fn of_forward(forward: u64, heard: Heard) -> Option<Happened>
     ensures { result ≡ told_of_forward forward heard }
 {
     match heard {
-        Heard::Octets(octets) => Some(Happened {
-            of: Happening::OriginBytes(forward, octets),
-            reason: Reason::Peer,
-        }),
-        Heard::End(reason) => Some(Happened {
-            of: Happening::OriginEnd(forward),
-            reason,
-        }),
-        Heard::Lost(reason) => Some(Happened {
-            of: Happening::OriginFailed(forward),
-            reason,
-        }),
+        Heard::Octets(octets) => happening(Happening::OriginBytes(forward, octets), Reason::Peer),
+        Heard::End(reason) => happening(Happening::OriginEnd(forward), reason),
+        Heard::Lost(reason) => happening(Happening::OriginFailed(forward), reason),
         Heard::Nothing => None,
     }
+}
+
+/// Something that happens, for that reason.
+fn happening(of: Happening, reason: Reason) -> Option<Happened>
+    ensures { result ≡ Some (record { of = of; reason = reason }) }
+{
+    Some(Happened { of, reason })
 }

@@ -9,7 +9,10 @@ use hc_arguments::{ProxyLimits, ProxyPatience, Proxying, RecordTerms, Serving};
 use hc_auditing::Trouble;
 use hc_command::Server;
 use hc_crowd::{Limits, Patience};
-use hc_sockets::{Claim, Proxy, RecordTo, ServeFault, Service, Unrecordable, serve, serve_proxy};
+use hc_service::CoreSettings;
+use hc_serving::{
+    Claim, Health, Proxy, RecordTo, ServeFault, Service, Unrecordable, serve, serve_proxy,
+};
 use std::io;
 use std::io::Write;
 use std::net::Net;
@@ -101,10 +104,30 @@ where
         recording: recording_to(file, terms),
         keeps_cookies,
     };
-    match serve_proxy(rt, proxy, in_milliseconds(limits), settings, faults) {
+    match proxy_ended(rt, proxy, in_milliseconds(limits), settings, faults) {
         Ok(()) => 0,
         Err(ServeFault::Unrecordable(kind)) => unrecorded(kind, file_of(proxy), faults),
         Err(fault) => unserved(fault, proxy, faults),
+    }
+}
+
+// Serves many clients at once, and answers how that ended, or why it didn't begin.
+fn proxy_ended<R, E: Write>(
+    rt: &R,
+    proxy: Proxy<'_>,
+    limits: Limits,
+    settings: CoreSettings,
+    faults: &mut E,
+) -> Result<(), ServeFault>
+where
+    R: Files + Net + Clock + RandomSource + AllocGlobal,
+    R::File: Claim,
+    requires { AreGood settings }
+    ensures { SaysSome (E.contents faults.old) (E.contents faults.new) }
+{
+    match serve_proxy(rt, &Health::new(), proxy, limits, settings, faults) {
+        Ok(served) => served.into_end(),
+        Err(fault) => Err(fault),
     }
 }
 

@@ -1,5 +1,5 @@
 -- What a request gets at once, as the definitions have it.
-use Rattle.std.specs.Prelude.{◌≡◌, ◌&&◌}
+use Rattle.std.specs.Prelude.{◌≡◌, ◌&&◌, None}
 use Rattle.std.specs.FinMap.{values}
 use Rattle.std.specs.List.{list_any, count_by}
 use Rattle.hc_head.specs.declared.head.Target.{Target}
@@ -11,10 +11,11 @@ use Rattle.hc_service.specs.State.{Awaited, OpenNow, Table}
 use Rattle.hc_reactions.specs.declared.reacting.OpenBehind.{OpenBehind}
 use Rattle.hc_reactions.specs.declared.reacting.Reaction.{Reaction}
 use Rattle.hc_reactions.specs.declared.reacting.Underway.{Underway}
-use Rattle.hc_reactions.specs.declared.reacting.Reaction.TheVariants.{Replies, Sends, Waits}
+use Rattle.hc_reactions.specs.declared.reacting.Reaction.TheVariants.{Replies, Declines, Sends, Waits}
 
 abbrev pub owed_reaction : Reaction → OwedReaction
 owed_reaction (Replies reply behind) = OwesReply reply behind
+owed_reaction (Declines reply) = OwesReply reply None
 owed_reaction (Sends request cause kind) = OwesForward request cause kind
 owed_reaction (Waits forward) = OwesToWait forward
 

@@ -34,13 +34,18 @@ const MOST_BACKGROUND: usize = 1024;
 /// What a whole request gets at once.
 #[derive(Drop)]
 pub enum Reaction {
-    /// A reply: a hit, or a 504 where the client wants no forward (RFC 9111 section 5.2.1.7).
+    /// A hit.
     Replies {
         /// The reply.
         reply: Message<ResponseHead>,
         /// A request to the origin for the store alone, which validates what was served stale (RFC
         /// 5861 section 3).
         behind: Option<Message<RequestHead>>,
+    },
+    /// A 504, since the client wants no forward (RFC 9111 section 5.2.1.7).
+    Declines {
+        /// The reply.
+        reply: Message<ResponseHead>,
     },
     /// A request to the origin.
     Sends {
@@ -228,9 +233,8 @@ fn forward_reaction(
         ≡ forward_reaction wanted.now target.now request.now (option_copied chosen.entry) cause) }
 {
     if wants_no_forward(cause, &request.head) {
-        return Ok(Reaction::Replies {
+        return Ok(Reaction::Declines {
             reply: made_reply(alloc, wanted, StatusCode::GATEWAY_TIMEOUT)?,
-            behind: None,
         });
     }
     stored_forward(alloc, wanted, target, request, chosen, cause)

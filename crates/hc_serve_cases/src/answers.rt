@@ -8,7 +8,7 @@ use crate::service::say_service;
 use crate::staged::Manner;
 use crate::telling::{Told, say_failures, say_octets, say_run};
 use hc_cases::{Ask, Case, Unanswered};
-use hc_sockets::Claim;
+use hc_serving::Claim;
 use std::alloc::Global;
 use std::net::Net;
 use std::random::RandomSource;

@@ -1,6 +1,6 @@
 //! A file at which a write fails.
 
-use hc_sockets::Claim;
+use hc_serving::Claim;
 use std::fs::{Metadata, OpenFile, Permissions};
 use std::io;
 use std::io::{ErrorKind, Read, Seek, SeekFrom, Write};

@@ -10,7 +10,7 @@ use crate::verdicts::say_verdict;
 use hc_cases::Unanswered;
 use hc_fields::Octets;
 use hc_service::CoreSettings;
-use hc_sockets::{Claim, ServeFault, Service, serve};
+use hc_serving::{Claim, ServeFault, Service, serve};
 use hc_transcript::Format;
 use std::alloc::{AllocError, Global};
 use std::io::{Read, Write};

@@ -5,8 +5,9 @@ use std::time;
 
 /// The system's clock. Where it can't be read, it tells the moment 0, which a cache takes for the last that it was told.
 #[derive(Drop)]
-pub(crate) struct SystemClock<'a, R: time::Clock> {
-    pub(crate) system: &'a R,
+pub struct SystemClock<'a, R: time::Clock> {
+    /// The system.
+    pub system: &'a R,
 }
 
 impl<'a, R: time::Clock> Clock for SystemClock<'a, R> {

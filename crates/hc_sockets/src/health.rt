@@ -9,7 +9,7 @@ const MOST_IN_A_ROW: u64 = 100;
 
 /// Why the system lets nobody be served any more.
 #[derive(Clone, Copy)]
-pub(crate) enum Breakdown {
+pub enum Breakdown {
     /// It couldn't say what is ready, for this reason.
     Poll(io::Error),
     /// Its clock that is never set couldn't be read, for this reason.
@@ -17,7 +17,6 @@ pub(crate) enum Breakdown {
 }
 
 /// Whether the system still does what serving needs. The sockets note it, and whoever serves looks at it.
-#[derive(Drop)]
 pub struct Health {
     /// How many polls have failed.
     failed: Cell<u64>,
@@ -27,6 +26,21 @@ pub struct Health {
     last: Cell<Duration>,
     /// Why serving ends, if it does.
     end: Cell<Option<Breakdown>>,
+}
+
+impl Drop for Health {
+    fn drop(self) {
+        let Health {
+            failed,
+            in_a_row,
+            last,
+            end,
+        } = self;
+        drop(failed);
+        drop(in_a_row);
+        drop(last);
+        drop(end);
+    }
 }
 
 impl Health {
@@ -80,17 +94,17 @@ impl Health {
     }
 
     /// How many polls have failed.
-    pub(crate) fn failed_polls(&self) -> u64 {
+    pub fn failed_polls(&self) -> u64 {
         self.failed.get()
     }
 
     /// Why serving ends, if it does.
-    pub(crate) fn end(&self) -> Option<Breakdown> {
+    pub fn end(&self) -> Option<Breakdown> {
         self.end.get()
     }
 
     /// Whether serving ends.
-    pub(crate) fn ends(&self) -> bool {
+    pub fn ends(&self) -> bool {
         self.end.get().is_some()
     }
 }

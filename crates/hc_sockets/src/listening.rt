@@ -23,7 +23,7 @@ const PIECES: u32 = 16;
 /// Clients who connect to a socket. One whose connection was served without a fault is read on, in part, before its
 /// socket is closed.
 #[derive(Drop)]
-pub(crate) struct Listening<N: Net> {
+pub struct Listening<N: Net> {
     alloc: Global,
     listener: N::Listener,
     /// Why no client came at last, if none did.
@@ -31,7 +31,8 @@ pub(crate) struct Listening<N: Net> {
 }
 
 impl<N: Net> Listening<N> {
-    pub(crate) fn new(alloc: Global, listener: N::Listener) -> Self {
+    /// Those who connect to that socket.
+    pub fn new(alloc: Global, listener: N::Listener) -> Self {
         Listening {
             alloc,
             listener,
@@ -40,7 +41,7 @@ impl<N: Net> Listening<N> {
     }
 
     /// Why no client came at last, if none did.
-    pub(crate) fn reason(&self) -> Option<io::Error> {
+    pub fn reason(&self) -> Option<io::Error> {
         self.reason
     }
 }

@@ -14,7 +14,7 @@ const NAME: &str = "Max open files";
 const MOST: usize = 4_096;
 
 /// How many files this process may have open at once, sockets too: its soft limit. None, where the system doesn't tell.
-pub(crate) fn open_files<R: Files>(rt: &R) -> Option<u64> {
+pub fn most_open_files<R: Files>(rt: &R) -> Option<u64> {
     let mut file = File::open(rt, LIMITS).ok()?;
     let mut limits = [0; MOST];
     let count = fill(&mut file, &mut limits).ok()?;

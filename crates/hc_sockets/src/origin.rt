@@ -6,10 +6,11 @@ use std::net::{Net, OpenStream, TcpStream};
 
 /// An origin that is connected to for each forward.
 #[derive(Drop)]
-pub(crate) struct Origin<'a, R: Net> {
-    pub(crate) net: &'a R,
+pub struct Origin<'a, R: Net> {
+    /// The system's sockets.
+    pub net: &'a R,
     /// Its host and port.
-    pub(crate) address: &'a str,
+    pub address: &'a str,
 }
 
 impl<'a, R: Net> Origins for Origin<'a, R> {

@@ -31,7 +31,7 @@ const LONGEST_WAIT: u64 = 250;
 
 /// Why there are no sockets.
 #[derive(Clone, Copy)]
-pub(crate) enum SocketsFault {
+pub enum SocketsFault {
     /// Memory was refused.
     Memory,
     /// No client could connect, for this reason.
@@ -49,7 +49,7 @@ impl From<AllocError> for SocketsFault {
 }
 
 /// The system's sockets, clocks and signals. What is ready is asked of all sockets at once.
-pub(crate) struct Sockets<'a, R: Net + Files + Clock> {
+pub struct Sockets<'a, R: Net + Files + Clock> {
     rt: &'a R,
     /// Where failures of the system are noted.
     health: &'a Health,
@@ -89,7 +89,7 @@ impl<'a, R: Net + Files + Clock> Drop for Sockets<'a, R> {
 
 impl<'a, R: Net + Files + Clock + AllocGlobal> Sockets<'a, R> {
     /// Clients can connect to each address of the host and port `listen`. The name of the origin is resolved now, once.
-    pub(crate) fn new(
+    pub fn new(
         rt: &'a R,
         health: &'a Health,
         listen: &str,
@@ -114,12 +114,12 @@ impl<'a, R: Net + Files + Clock + AllocGlobal> Sockets<'a, R> {
 
 impl<'a, R: Net + Files + Clock> Sockets<'a, R> {
     /// The addresses to which clients connect, each with the port that it really has.
-    pub(crate) fn addresses(&self) -> &[SocketAddr] {
+    pub fn addresses(&self) -> &[SocketAddr] {
         self.listeners.addresses()
     }
 
     /// Whether signals that ask the program to stop can be seen: they are blocked, and the system tells which are pending.
-    pub(crate) fn hears_stops(&self) -> bool {
+    pub fn hears_stops(&self) -> bool {
         self.signals.are_heard()
     }
 

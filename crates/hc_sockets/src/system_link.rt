@@ -13,7 +13,7 @@ use std::net::{OpenStream, Shutdown};
 const TRIES: u32 = 1_000;
 
 /// What the system reads and writes.
-pub(crate) trait Device {
+pub trait Device {
     /// Reads as `std::io::Read` does.
     fn read(&mut self, buffer: &mut [u8]) -> io::Result<usize>
         ensures { ReadsAtMost result buffer.new };
@@ -28,8 +28,9 @@ pub(crate) trait Device {
 
 /// A connected socket.
 #[derive(Drop)]
-pub(crate) struct Socket<S: Read + Write + OpenStream> {
-    pub(crate) stream: S,
+pub struct Socket<S: Read + Write + OpenStream> {
+    /// The stream.
+    pub stream: S,
 }
 
 impl<S: Read + Write + OpenStream> Device for Socket<S> {
@@ -49,8 +50,9 @@ impl<S: Read + Write + OpenStream> Device for Socket<S> {
 
 /// The file that is recorded to.
 #[derive(Drop)]
-pub(crate) struct Recording<F: Read + Write> {
-    pub(crate) file: F,
+pub struct Recording<F: Read + Write> {
+    /// The file.
+    pub file: F,
 }
 
 impl<F: Read + Write> Device for Recording<F> {
@@ -67,7 +69,7 @@ impl<F: Read + Write> Device for Recording<F> {
 
 /// A socket or a file as a link.
 #[derive(Drop)]
-pub(crate) struct SystemLink<T: Device> {
+pub struct SystemLink<T: Device> {
     device: T,
     /// How often it failed.
     failures: u64,
@@ -77,7 +79,7 @@ pub(crate) struct SystemLink<T: Device> {
 
 impl<T: Device> SystemLink<T> {
     /// One that hasn't failed.
-    pub(crate) fn new(device: T) -> Self
+    pub fn new(device: T) -> Self
         ensures { result.failures ≡ 0 }
     {
         SystemLink {
@@ -93,7 +95,7 @@ impl<T: Device> SystemLink<T> {
     }
 
     /// Why it failed last, if it did.
-    pub(crate) fn reason(&self) -> Option<io::Error> {
+    pub fn reason(&self) -> Option<io::Error> {
         self.reason
     }
 

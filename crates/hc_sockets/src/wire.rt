@@ -8,7 +8,7 @@ use std::net::Shutdown;
 
 /// A socket that is never waited for. It is told of no more once it is dropped.
 #[derive(Drop)]
-pub(crate) struct Wire {
+pub struct Wire {
     stream: TcpStream,
 }
 

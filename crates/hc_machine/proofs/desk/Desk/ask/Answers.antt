@@ -1,4 +1,5 @@
-use Rattle.hc_reactions.specs.declared.reacting.Reaction.TheVariants.{Replies, Sends, Waits}
+use Rattle.std.specs.Prelude.{None}
+use Rattle.hc_reactions.specs.declared.reacting.Reaction.TheVariants.{Replies, Declines, Sends, Waits}
 use Rattle.hc_machine.proofs.AskLemmas.{asks_forward, asks_join, asks_replies, reacts_as}
 use Rattle.hc_machine.proofs.SendLemmas.{on_ok_by}
 use Rattle.hc_machine.proofs.desk.Desk.ask.Goals as goal
@@ -18,6 +19,22 @@ returns-in-Replies-clause-turn g c = λ settings s k size stands there is.
           c.in_ok-reaction.reaction (Replies c.in-Replies.reply c.in-Replies.behind) c.in-Replies.is c.open_behind.ensures c.least_joinable.ensures c.in_ok-reaction.ensures;
     })
     c.reply_and_validate.ensures.replies
+
+pub returns-in-Declines-clause-turn : goal.returns-in-Declines-clause-turn
+returns-in-Declines-clause-turn g c = λ settings s k size stands there is.
+    asks_replies g.row.S.Denot g.row.S-Hasher.Denot settings (record c.args.self.now { incidents = c.note_refusal.new.self }) s c.args.c k c.args.client c.args.request c.args.target size
+    c.closes_behind-closes.result c.in_ok-number.number c.record_request.new.numbers
+    c.args.actions.now.items c.record_request.new.actions.items c.reply_and_validate-in-Declines.new.actions.items c.in-Declines.reply None c.react.new.store c.reply_and_validate-in-Declines.result
+    c.reply_and_validate-in-Declines.new.self stands there is
+    (record {
+      closes_is = c.closes_behind-closes.ensures;
+      exchange_is = c.in_ok-number.ensures.number;
+      numbers_are = c.in_ok-number.ensures.numbers;
+      actions_are = c.in_ok-number.ensures.actions;
+      reacts = reacts_as _ c.args.target c.args.request c.args.self.now.store c.react.new.store c.args.self.now.links c.args.self.now.exchanges c.open_behind.result c.least_joinable.result
+          c.in_ok-reaction.reaction (Declines c.in-Declines.reply) c.in-Declines.is c.open_behind.ensures c.least_joinable.ensures c.in_ok-reaction.ensures;
+    })
+    c.reply_and_validate-in-Declines.ensures.replies
 
 pub returns-in-Sends-clause-turn : goal.returns-in-Sends-clause-turn
 returns-in-Sends-clause-turn g c = λ settings s k size stands there is.

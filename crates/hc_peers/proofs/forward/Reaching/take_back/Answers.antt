@@ -1,4 +1,0 @@
-use Rattle.hc_peers.proofs.forward.Reaching.take_back.Goals as goal
-
-pub returns-in-Linked-clause-kept : goal.returns-in-Linked-clause-kept
-returns-in-Linked-clause-kept g c = λ sent heard is. c.take_back.ensures.kept sent heard (rw c.in-Linked.is at is)

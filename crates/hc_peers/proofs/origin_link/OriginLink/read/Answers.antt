@@ -1,8 +1,0 @@
-use Rattle.std.proofs.Common.{Ok}
-use Rattle.hc_peers.proofs.ForwardLemmas.{linked_heard}
-use Rattle.hc_peers.proofs.origin_link.OriginLink.read.Goals as goal
-
-pub returns-clause-heard : goal.returns-clause-heard
-returns-clause-heard g c = λ works sent heard is.
-    linked_heard g.S.Stream.has_given g.S.Stream.has_got c.args.self.now (record c.args.self.now { flow = c.hear_flow.new.flow; progress = c.moved-self.result }) works
-    c.hear_flow.ensures.owes sent (Ok c.in_ok-heard.heard) heard (c.in_ok-heard.ensures.gave heard is.gave) is

@@ -1,0 +1,27 @@
+//! A cache behind sockets: clients connect to it, one after another or many at once, it connects to an origin, and both
+//! sides are recorded to a file.
+#![tactic(auto)]
+
+mod checks;
+mod claim;
+mod fault;
+mod herald;
+mod proxying;
+mod recordable;
+mod recorded;
+mod recording;
+mod served;
+mod serving;
+mod watched;
+mod wrongs;
+
+pub use claim::Claim;
+pub use fault::ServeFault;
+pub use hc_sockets::Health;
+pub use proxying::{Proxy, serve_proxy};
+pub use recordable::Unrecordable;
+pub use recorded::{RecordEnd, Recorded};
+pub use recording::{FileRecorder, RecordTo};
+pub use served::Served;
+pub use serving::{Service, serve};
+pub use watched::{Opening, serve_links};

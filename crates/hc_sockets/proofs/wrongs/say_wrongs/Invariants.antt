@@ -1,6 +1,0 @@
-use Rattle.hc_notices.specs.Voices.{GoesOn}
-use Rattle.hc_sockets.proofs.wrongs.say_wrongs.Given as goal
-
--- the voice went on so far
-abbrev pub invariant-kinds : goal.invariant-kinds
-invariant-kinds g l = GoesOn g.E.Write.contents l.initial.voice l.voice
