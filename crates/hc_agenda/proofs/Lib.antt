@@ -4,4 +4,5 @@ pub mod EarliestLemmas
 pub mod LoadLemmas
 pub mod MomentsLaws
 pub mod MomentsLemmas
+pub mod PlaceLemmas
 pub mod TurnLemmas

@@ -1,11 +1,23 @@
 -- Each link has its turn in a batch.
-use Rattle.std.proofs.Common.{◌≡◌, ℕ, ◌+◌, ◌⊎◌, Bool, cond, List, [], ◌∷◌, ◌++◌, sym, ap, subst, ◌∙◌, inl, inr, ⊎_elim, arith, append-nil}
+use Rattle.std.proofs.Common.{◌≡◌, ℕ, ◌+◌, ◌≤◌, ◌⊎◌, Bool, cond, List, [], ◌∷◌, ◌++◌, Option, Some, None, Bor, drop, length, take, refl, suc, zero, sym, ap, subst, ◌∙◌, inl, inr, ⊎_elim, arith, append-nil}
 use Rattle.std.specs.List.{Contains, count_by}
+use Rattle.std.specs.Option.{option_copied}
+use Rattle.std.specs.Slice.{IsItemAt}
 use Rattle.std.proofs.lemmas.List.Elements.{Contains-append_cases, Contains-append_left, Contains-append_right, Contains-push, Contains-push_cases}
 use Rattle.std.proofs.lemmas.List.Sums.{sum_by-cons}
 use Rattle.hc_order.specs.declared.receiver.Receiver.{Receiver}
-use Rattle.hc_agenda.specs.Turns.{IsBatch, LeadsTo, Step, Waiting, all_of, before_all, pushed, put_before_in, turns_of}
+use Rattle.hc_agenda.specs.Turns.{IsBatch, IsFirstTurn, LeadsTo, Step, Waiting, all_of, before_all, pushed, put_before_in, turns_of}
 use Rattle.hc_agenda.specs.Turns.Step.{Turn, Behind, Before}
+
+-- ---- the first link
+
+-- what is lent as the first of those that wait is the first of the batch, where some are left of it
+pub first_turn : (links : List Receiver) (left : ℕ) (lent : Option (Bor Receiver)) → (left ≡ 0 → ⊥) → left ≤ length links → IsItemAt links 0 lent
+    → IsFirstTurn (option_copied lent) (record { batch = take left links; behind = drop left links })
+first_turn links zero lent some within at = absurd (some refl)
+first_turn [] (suc left) lent some within at = absurd (omega (arith, within))
+first_turn (x ∷ links) (suc left) None some within at = absurd (omega (arith, at.3))
+first_turn (x ∷ links) (suc left) (Some first) some within at = (take left links, ap (λ (y : Receiver). y ∷ take left links) (sym at.1))
 
 -- ---- links of a list
 

@@ -1,5 +1,5 @@
 -- What is to be done with links, and what each call changes of it.
-use Rattle.std.specs.Prelude.{◌≡◌, ◌⊎◌, ℕ, Bool, true, false, List, [], ◌∷◌, ◌++◌, Option, Some, None, nat_le}
+use Rattle.std.specs.Prelude.{◌≡◌, ◌⊎◌, ℕ, Bool, true, false, List, [], ◌∷◌, ◌++◌, Option, Some, None}
 use Rattle.hc_order.specs.declared.receiver.Receiver.{Receiver}
 use Rattle.hc_agenda.specs.declared.agenda.Agenda.{Agenda}
 use Rattle.hc_agenda.specs.declared.deadline.Timeout.{Timeout}
@@ -36,6 +36,11 @@ NotesOwed link before after =
     (ChangesOwed before after × (owed_in after ≡ owed_in before ++ link ∷ []))
     ⊎ (ChangesOwed (refused_in before) after × (owed_in after ≡ owed_in before))
 
+-- it is the first of some links, if there is one
+abbrev pub IsFirstOwed : Option Receiver → List Receiver → Type 0
+IsFirstOwed None links = links ≡ []
+IsFirstOwed (Some link) links = (rest : List Receiver) × (links ≡ link ∷ rest)
+
 -- the first of some links is taken out, if there is one
 abbrev pub TakesFirst : Option Receiver → List Receiver → List Receiver → Type 0
 TakesFirst None before after = (before ≡ []) × (after ≡ [])
@@ -54,11 +59,6 @@ NotesDeadline timeout tick number before after =
 -- a number isn't due any more by some time-outs, and nothing else has changed
 abbrev pub ForgetsDeadlines : (Timeout → Bool) → ℕ → Agenda → Agenda → Type 0
 ForgetsDeadlines is_forgotten number before after = ChangesDeadlines before after × Forgets is_forgotten number before.deadlines after.deadlines
-
--- whether there is a time, and it has come by that tick
-abbrev pub has_come : Option ℕ → (tick : ℕ) → Bool
-has_come None tick = false
-has_come (Some due) tick = nat_le due tick
 
 -- somebody is due then, or forwards are to be looked at
 abbrev pub IsToBeDone : Agenda → (tick : ℕ) → Type 0

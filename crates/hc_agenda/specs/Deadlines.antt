@@ -1,9 +1,9 @@
 -- Who is due, and when: each number at one tick of a time-out at most.
-use Rattle.std.specs.Prelude.{◌≡◌, ◌+◌, ◌<◌, ◌≤◌, ◌⊎◌, ◌&&◌, ◌||◌, ◌==◌, ℕ, Bool, if◌then◌else◌, length, Option, Some, None, IfSome, is_some}
+use Rattle.std.specs.Prelude.{◌≡◌, ◌+◌, ◌<◌, ◌≤◌, ◌⊎◌, ◌&&◌, ◌||◌, ◌==◌, ℕ, Bool, false, if◌then◌else◌, length, Option, Some, None, IfSome, is_some, nat_le}
 use Rattle.std.specs.BTreeMap.{get}
 use Rattle.hc_agenda.specs.declared.deadline.Deadline.{Deadline}
 use Rattle.hc_agenda.specs.declared.deadline.Timeout.{Timeout}
-use Rattle.hc_agenda.specs.declared.deadline.Timeout.TheVariants.{Guest, TurnedAway, Client, ClientLingering, Place, Connect, Origin, OriginLingering}
+use Rattle.hc_agenda.specs.declared.deadline.Timeout.TheVariants.{Client, ClientLingering, Place, Connect, Origin}
 use Rattle.hc_agenda.specs.declared.deadlines.Deadlines.{Deadlines}
 use Rattle.hc_agenda.specs.Due.{by_number, same_number, same_timeout}
 
@@ -14,6 +14,11 @@ deadline_at timeout number deadlines = get by_number deadlines.ticks (timeout, n
 -- how many deadlines there are
 abbrev pub deadlines_in : Deadlines → ℕ
 deadlines_in deadlines = length deadlines.ticks.entries
+
+-- whether there is a time, and it has come by that tick
+abbrev pub has_come : Option ℕ → (tick : ℕ) → Bool
+has_come None tick = false
+has_come (Some due) tick = nat_le due tick
 
 -- nothing is due
 pub record NoneIsDue (deadlines : Deadlines) : Type 0 where
@@ -34,17 +39,13 @@ pub record SetsDeadline (timeout : Timeout) (number : ℕ) (tick : Option ℕ) (
 abbrev pub Forgets : (Timeout → Bool) → ℕ → Deadlines → Deadlines → Type 0
 Forgets is_forgotten number before after = (timeout : Timeout) (n : ℕ) → deadline_at timeout n after ≡ (if is_forgotten timeout && number == n then None else deadline_at timeout n before)
 
--- whether a time-out is of a guest, or of one who was turned away
-abbrev pub is_of_guest : Timeout → Bool
-is_of_guest timeout = same_timeout Guest timeout || same_timeout TurnedAway timeout
-
--- whether it is of a client
+-- whether a time-out is of a client
 abbrev pub is_of_client : Timeout → Bool
 is_of_client timeout = same_timeout Client timeout || same_timeout ClientLingering timeout
 
 -- whether it is of a forward, or of its link
 abbrev pub is_of_forward : Timeout → Bool
-is_of_forward timeout = (same_timeout Place timeout || same_timeout Connect timeout) || (same_timeout Origin timeout || same_timeout OriginLingering timeout)
+is_of_forward timeout = same_timeout Place timeout || (same_timeout Connect timeout || same_timeout Origin timeout)
 
 -- ---- who is due first
 
@@ -79,7 +80,7 @@ abbrev pub IsFirstNumberOf : Timeout → Option ℕ → Deadlines → Type 0
 IsFirstNumberOf timeout None deadlines = NobodyIsDueBy timeout deadlines
 IsFirstNumberOf timeout (Some number) deadlines = (tick : ℕ) × IsFirst timeout tick number deadlines
 
--- the deadline that comes first of a time-out is taken out, where it is due by that tick; else nobody is due by then, and all is as before
-abbrev pub PassesDeadline : Timeout → (tick : ℕ) → Option Deadline → Deadlines → Deadlines → Type 0
-PassesDeadline timeout tick None before after = (after ≡ before) × ((n : ℕ) → IfSome (deadline_at timeout n before) (λ due. tick < due))
-PassesDeadline timeout tick (Some deadline) before after = (deadline.tick ≤ tick) × IsFirstOf timeout (Some deadline) before × SetsDeadline timeout deadline.number None before after
+-- it is the deadline that comes first of a time-out, and is due by that tick; there is none where nobody is due by then
+abbrev pub IsDueFirst : Timeout → (tick : ℕ) → Option Deadline → Deadlines → Type 0
+IsDueFirst timeout tick None deadlines = (n : ℕ) → IfSome (deadline_at timeout n deadlines) (λ due. tick < due)
+IsDueFirst timeout tick (Some deadline) deadlines = (deadline.tick ≤ tick) × IsFirstOf timeout (Some deadline) deadlines

@@ -24,6 +24,11 @@ abbrev pub GivesTurn : Option Receiver → Waiting → Waiting → Type 0
 GivesTurn None old new = (old.batch ≡ []) × (new ≡ old)
 GivesTurn (Some link) old new = old ≡ record { batch = link ∷ new.batch; behind = new.behind }
 
+-- it is the link whose turn is next in the batch; there is none where the batch is over
+abbrev pub IsFirstTurn : Option Receiver → Waiting → Type 0
+IsFirstTurn None waiting = waiting.batch ≡ []
+IsFirstTurn (Some link) waiting = (rest : List Receiver) × (waiting.batch ≡ link ∷ rest)
+
 -- ---- a batch
 
 -- what comes of links that wait: one has its turn, or comes behind the others, or before them

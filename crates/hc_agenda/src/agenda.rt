@@ -1,8 +1,9 @@
 //! What is to be done with links, and when.
 
 ghost use Rattle.std.specs.Prelude.{◌≡◌, ◌≤◌, ◌++◌, ◌∷◌, [], IfSome, None, OnErr, OnOk, Some, true, false, if◌then◌else◌, length};
-ghost use Rattle.hc_agenda.specs.Agendas.{ChangesDeadlines, ChangesOwed, ForgetsDeadlines, IsFree, IsToBeDone, NotesDeadline, NotesOwed, NotesTurns, TakesFirst, has_come, owed_in, refused_in};
-ghost use Rattle.hc_agenda.specs.Deadlines.{IsFirstNumberOf, IsFirstOf, PassesDeadline, deadlines_in, is_of_client, is_of_forward, is_of_guest};
+ghost use Rattle.hc_agenda.specs.Agendas.{ChangesDeadlines, ChangesOwed, ForgetsDeadlines, IsFirstOwed, IsFree, IsToBeDone, NotesDeadline, NotesOwed, NotesTurns, TakesFirst, owed_in, refused_in};
+ghost use Rattle.hc_agenda.specs.Deadlines.{IsDueFirst, IsFirstNumberOf, IsFirstOf, deadline_at, deadlines_in, has_come, is_of_client, is_of_forward};
+ghost use Rattle.hc_agenda.specs.Due.{same_timeout};
 ghost use Rattle.hc_agenda.specs.Earliest.{IsEarliest, earlier_of};
 ghost use Rattle.hc_agenda.specs.Turns.{before_all, pushed};
 
@@ -12,9 +13,9 @@ use crate::turns::Turns;
 use hc_order::Receiver;
 use std::alloc::{AllocError, Global};
 use std::collections::VecDeque;
-use std::mem;
 
-/// What is to be done with links, and when. That memory is refused for a note of it is kept until it is asked for.
+/// What is to be done with links, and when. That memory was refused for a note of it is kept: from then on links may wait
+/// for ever, so whoever drives ends.
 #[derive(Drop)]
 pub struct Agenda {
     /// The links that are to be heard.
@@ -80,11 +81,11 @@ impl Agenda {
         }
     }
 
-    /// How many links there are to which something may have to be written.
-    pub fn owed(&self) -> usize
-        ensures { result ≡ length (owed_in self.now) }
+    /// The first of these, which is left there.
+    pub fn first_owed(&self) -> Option<Receiver>
+        ensures { IsFirstOwed result (owed_in self.now) }
     {
-        self.owed.len()
+        self.owed.front().copied()
     }
 
     /// The first of these, which is taken out.
@@ -116,13 +117,18 @@ impl Agenda {
         self.deadlines.len()
     }
 
-    /// The first deadline of that time-out, which is taken out, if it is due by that millisecond.
-    pub fn pass(&mut self, timeout: Timeout, tick: u64) -> Option<Deadline>
-        ensures due { IfSome result (λ deadline. deadline.tick ≤ tick) }
-        ensures only { ChangesDeadlines self.old self.new }
-        ensures passes { PassesDeadline timeout tick result self.old.deadlines self.new.deadlines }
+    /// The first deadline of that time-out, if it is due by that millisecond. It is left there.
+    pub fn due(&self, timeout: Timeout, tick: u64) -> Option<Deadline>
+        ensures { IsDueFirst timeout tick result self.now.deadlines }
     {
-        self.deadlines.pass(timeout, tick)
+        self.deadlines.due(timeout, tick)
+    }
+
+    /// Whether a number is due by that time-out, at that millisecond or before.
+    pub fn is_due_by(&self, timeout: Timeout, number: u64, latest: u64) -> bool
+        ensures { result ≡ has_come (deadline_at timeout number self.now.deadlines) latest }
+    {
+        self.deadlines.is_due_by(timeout, number, latest)
     }
 
     /// Clients have left who may have waited for forwards: these are looked at by that millisecond at the latest.
@@ -165,12 +171,11 @@ impl Agenda {
         }
     }
 
-    /// A guest's link has gone, or that of one who was turned away.
-    pub fn forget_guest(&mut self, number: u64)
-        ensures { ForgetsDeadlines is_of_guest number self.old self.new }
+    /// A number isn't due any more by that time-out.
+    pub fn forget(&mut self, timeout: Timeout, number: u64)
+        ensures { ForgetsDeadlines (same_timeout timeout) number self.old self.new }
     {
-        self.deadlines.remove(Timeout::Guest, number);
-        self.deadlines.remove(Timeout::TurnedAway, number);
+        self.deadlines.remove(timeout, number);
     }
 
     /// A client's link has gone.
@@ -181,14 +186,13 @@ impl Agenda {
         self.deadlines.remove(Timeout::ClientLingering, number);
     }
 
-    /// A forward has gone, and its link.
+    /// A forward has gone. Its link may linger.
     pub fn forget_forward(&mut self, forward: u64)
         ensures { ForgetsDeadlines is_of_forward forward self.old self.new }
     {
         self.deadlines.remove(Timeout::Place, forward);
         self.deadlines.remove(Timeout::Connect, forward);
         self.deadlines.remove(Timeout::Origin, forward);
-        self.deadlines.remove(Timeout::OriginLingering, forward);
     }
 
     /// The millisecond at which the first deadline of all is due, or forwards are to be looked at.
@@ -205,11 +209,10 @@ impl Agenda {
         self.refused = true;
     }
 
-    /// Whether memory was refused for a note since that was asked last.
-    pub fn was_refused(&mut self) -> bool
-        ensures told { result ≡ self.old.refused }
-        ensures once { self.new ≡ record self.old { refused = false } }
+    /// Whether memory was refused for a note.
+    pub fn was_refused(&self) -> bool
+        ensures { result ≡ self.now.refused }
     {
-        mem::replace(&mut self.refused, false)
+        self.refused
     }
 }

@@ -19,7 +19,7 @@ pub(crate) struct Deadlines {
 impl Deadlines {
     ghost use Rattle.std.specs.Prelude.{◌≡◌, ◌⊎◌, Some, None, OnErr, OnOk};
     ghost use Rattle.hc_agenda.specs.Earliest.{IsEarliest};
-    ghost use Rattle.hc_agenda.specs.Deadlines.{IsDue, IsDueBy, IsFirstOf, KeepsDeadlines, NoneIsDue, PassesDeadline, SetsDeadline, deadlines_in};
+    ghost use Rattle.hc_agenda.specs.Deadlines.{IsDue, IsDueBy, IsDueFirst, IsFirstOf, KeepsDeadlines, NoneIsDue, SetsDeadline, deadline_at, deadlines_in, has_come};
 
     /// Nothing is due.
     pub(crate) fn new(alloc: Global) -> Self
@@ -115,9 +115,9 @@ impl Deadlines {
         take_out(&mut self.queue, timeout, tick, number);
     }
 
-    /// Takes out the earliest of that time-out, if it is due by that millisecond.
-    pub(crate) fn pass(&mut self, timeout: Timeout, tick: u64) -> Option<Deadline>
-        ensures { PassesDeadline timeout tick result self.old self.new }
+    /// The earliest of that time-out, if it is due by that millisecond.
+    pub(crate) fn due(&self, timeout: Timeout, tick: u64) -> Option<Deadline>
+        ensures { IsDueFirst timeout tick result self.now }
     {
         let Some(deadline) = self.first_of(timeout) else {
             return None;
@@ -125,8 +125,17 @@ impl Deadlines {
         if deadline.tick > tick {
             return None;
         }
-        self.remove(timeout, deadline.number);
         Some(deadline)
+    }
+
+    /// Whether a number is due by that time-out, at that millisecond or before.
+    pub(crate) fn is_due_by(&self, timeout: Timeout, number: u64, latest: u64) -> bool
+        ensures { result ≡ has_come (deadline_at timeout number self.now) latest }
+    {
+        match self.ticks.get(&(timeout, number)) {
+            Some(tick) => *tick <= latest,
+            None => false,
+        }
     }
 }
 

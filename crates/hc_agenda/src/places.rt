@@ -1,9 +1,9 @@
 //! The places at the origin: who has one, and who waits for one.
 
-ghost use Rattle.std.specs.Prelude.{◌≡◌, ◌+◌, ◌≤◌, ℕ, true, false, IfSome, OnOk};
+ghost use Rattle.std.specs.Prelude.{◌≡◌, ◌+◌, ◌-◌, ◌^◌, ◌≤◌, ◌++◌, ◌∷◌, ℕ, [], true, false, IfSome, OnErr, OnOk, length, min};
 ghost use Rattle.std.specs.BTreeMap.{is_at};
 ghost use Rattle.std.specs.Ordering.{nat_cmp};
-ghost use Rattle.hc_agenda.specs.Places.{HasPlaceLeft, KeepsPlaces, has_place, places_given, places_in_all};
+ghost use Rattle.hc_agenda.specs.Places.{ChangesLine, ChangesOpened, HasPlaceLeft, IsNext, IsNextBehind, KeepsLines, KeepsPlaces, TakesForward, TakesNext, awaited_in, count_waiting, first_in, has_place, line_of, opened_in, places_given, places_in_all, unawaited_in, without_first};
 
 use std::alloc::{AllocError, Global};
 use std::collections::{BTreeMap, VecDeque};
@@ -40,6 +40,9 @@ impl Places {
         ensures all { places_in_all result ≡ most }
         ensures none { places_given result ≡ 0 }
         ensures empty { (f : ℕ) → has_place f result ≡ false }
+        ensures opened { opened_in result ≡ [] }
+        ensures awaited { awaited_in result ≡ [] }
+        ensures unawaited { unawaited_in result ≡ [] }
     {
         Places {
             most,
@@ -53,27 +56,37 @@ impl Places {
 
     /// A forward was opened.
     pub fn open(&mut self, forward: u64) -> Result<(), AllocError>
-        ensures { KeepsPlaces self.old self.new }
+        ensures kept { KeepsPlaces self.old self.new }
+        ensures only { ChangesOpened self.old self.new }
+        ensures ok { OnOk result (opened_in self.new ≡ opened_in self.old ++ forward ∷ []) }
+        ensures err { OnErr result (opened_in self.new ≡ opened_in self.old) }
     {
         self.opened.push_back(forward)?;
         Ok(())
     }
 
-    /// How many forwards were opened and aren't sorted yet.
-    pub fn opened(&self) -> usize {
-        self.opened.len()
+    /// The first of those that were opened and aren't sorted yet, which is left there.
+    pub fn first_opened(&self) -> Option<u64>
+        ensures { result ≡ first_in (opened_in self.now) }
+    {
+        first_of(&self.opened)
     }
 
-    /// The first of those that were opened and aren't sorted yet, which is taken out.
+    /// The first of these, which is taken out.
     pub fn next_opened(&mut self) -> Option<u64>
-        ensures { KeepsPlaces self.old self.new }
+        ensures kept { KeepsPlaces self.old self.new }
+        ensures only { ChangesOpened self.old self.new }
+        ensures first { TakesForward result (opened_in self.old) (opened_in self.new) }
     {
         self.opened.pop_front()
     }
 
     /// A forward waits for a place.
     pub fn wait(&mut self, forward: u64, background: bool) -> Result<(), AllocError>
-        ensures { KeepsPlaces self.old self.new }
+        ensures kept { KeepsPlaces self.old self.new }
+        ensures only { ChangesLine background self.old self.new }
+        ensures ok { OnOk result (line_of background self.new ≡ line_of background self.old ++ forward ∷ []) }
+        ensures err { OnErr result (line_of background self.new ≡ line_of background self.old) }
     {
         if background {
             self.unawaited.push_back(forward)?;
@@ -83,41 +96,51 @@ impl Places {
         Ok(())
     }
 
-    /// How many forwards wait.
-    pub fn waiting(&self) -> usize {
-        self.awaited.len().saturating_add(self.unawaited.len())
+    /// The next forward that may have a place now, which is left in its line.
+    pub fn candidate(&self) -> Option<Candidate>
+        ensures { IsNext self.now result }
+    {
+        if self.given.len() >= self.most {
+            return None;
+        }
+        if let Some(forward) = first_of(&self.awaited) {
+            return Some(Candidate {
+                forward,
+                background: false,
+            });
+        }
+        self.candidate_behind()
+    }
+
+    /// The same of those that nobody awaits, where none of the others waits and a place is left. Of an odd number of places
+    /// the larger half is theirs, so that they have one at least.
+    fn candidate_behind(&self) -> Option<Candidate>
+        ensures { IsNextBehind self.now result }
+    {
+        if self.background >= self.most - self.most / 2 {
+            return None;
+        }
+        let forward = first_of(&self.unawaited)?;
+        Some(Candidate {
+            forward,
+            background: true,
+        })
     }
 
     /// The next forward that may have a place now, which is taken out.
     pub fn next(&mut self) -> Option<Candidate>
         ensures kept { KeepsPlaces self.old self.new }
         ensures left { IfSome result (λ _. HasPlaceLeft self.new) }
+        ensures first { IsNext self.old result }
+        ensures taken { TakesNext result self.old self.new }
     {
-        if self.given.len() >= self.most {
-            return None;
+        let candidate = self.candidate()?;
+        if candidate.background {
+            self.unawaited.pop_front();
+        } else {
+            self.awaited.pop_front();
         }
-        if let Some(forward) = self.awaited.pop_front() {
-            return Some(Candidate {
-                forward,
-                background: false,
-            });
-        }
-        self.next_unawaited()
-    }
-
-    /// The same of those that nobody awaits. Of an odd number of places the larger half is theirs, so that they have one
-    /// at least.
-    fn next_unawaited(&mut self) -> Option<Candidate>
-        ensures { KeepsPlaces self.old self.new }
-    {
-        if self.background >= self.most - self.most / 2 {
-            return None;
-        }
-        let forward = self.unawaited.pop_front()?;
-        Some(Candidate {
-            forward,
-            background: true,
-        })
+        Some(candidate)
     }
 
     /// A forward has a place. Where memory is refused, all is as it was.
@@ -126,6 +149,7 @@ impl Places {
         ensures one_more { places_given self.new ≤ places_given self.old + 1 }
         ensures kept { (f : ℕ) → has_place f self.old ≡ true → has_place f self.new ≡ true }
         ensures given { OnOk result (has_place candidate.forward self.new ≡ true) }
+        ensures lines { KeepsLines self.old self.new }
     {
         let Candidate {
             forward,
@@ -143,7 +167,10 @@ impl Places {
 
     /// A forward waits no more. The one that has waited for longest is taken out at once, any other once its turn comes.
     pub fn leave(&mut self, forward: u64)
-        ensures { KeepsPlaces self.old self.new }
+        ensures kept { KeepsPlaces self.old self.new }
+        ensures opened { opened_in self.new ≡ opened_in self.old }
+        ensures awaited { awaited_in self.new ≡ without_first forward (awaited_in self.old) }
+        ensures unawaited { unawaited_in self.new ≡ without_first forward (unawaited_in self.old) }
     {
         take_first(&mut self.awaited, forward);
         take_first(&mut self.unawaited, forward);
@@ -163,6 +190,7 @@ impl Places {
         ensures others { (f : ℕ) → is_at (nat_cmp forward) f ≡ false → has_place f self.new ≡ has_place f self.old }
         ensures freed { has_place forward self.new ≡ false }
         ensures had { result ≡ has_place forward self.old }
+        ensures lines { KeepsLines self.old self.new }
     {
         let Some(background) = self.given.remove(&forward) else {
             return false;
@@ -173,7 +201,8 @@ impl Places {
 
     /// A place isn't given any more.
     fn count_out(&mut self, background: bool)
-        ensures { KeepsPlaces self.old self.new }
+        ensures kept { KeepsPlaces self.old self.new }
+        ensures lines { KeepsLines self.old self.new }
     {
         if background {
             self.background = self.background.saturating_sub(1);
@@ -181,13 +210,18 @@ impl Places {
     }
 }
 
-/// Takes the first out, if it is that one.
-fn take_first(waiting: &mut VecDeque<u64>, forward: u64) {
-    let is_first = match waiting.front() {
-        Some(first) => *first == forward,
-        None => false,
-    };
-    if is_first {
-        waiting.pop_front();
+/// The first one of a line.
+fn first_of(line: &VecDeque<u64>) -> Option<u64>
+    ensures { result ≡ first_in line.now.items }
+{
+    line.front().copied()
+}
+
+/// Takes the first one out of a line, if it is that one.
+fn take_first(line: &mut VecDeque<u64>, forward: u64)
+    ensures { line.new.items ≡ without_first forward line.old.items }
+{
+    if first_of(line) == Some(forward) {
+        line.pop_front();
     }
 }

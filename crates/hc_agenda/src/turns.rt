@@ -2,7 +2,7 @@
 
 ghost use Rattle.std.specs.Prelude.{◌≡◌, ◌+◌, ◌↔◌, Bool, List, [], IsTrue, OnErr, OnOk, length};
 ghost use Rattle.std.specs.List.{Contains, count_by};
-ghost use Rattle.hc_agenda.specs.Turns.{GivesTurn, IsBatch, Step, Waiting, all_of, batch_of, before_all, pushed, put_before_in, turns_of};
+ghost use Rattle.hc_agenda.specs.Turns.{GivesTurn, IsBatch, IsFirstTurn, Step, Waiting, all_of, batch_of, before_all, pushed, put_before_in, turns_of};
 ghost use Rattle.hc_order.specs.declared.receiver.Receiver.{Receiver};
 
 use hc_order::Receiver;
@@ -67,6 +67,16 @@ impl Turns {
         ensures { self.new ≡ batch_of self.old }
     {
         self.left = self.waiting.len();
+    }
+
+    /// The link whose turn is next in this batch, which is left there; none where the batch is over.
+    pub fn first(&self) -> Option<Receiver>
+        ensures { IsFirstTurn result self.now }
+    {
+        if self.left == 0 {
+            return None;
+        }
+        self.waiting.front().copied()
     }
 
     /// The link whose turn it is; none where the batch is over.

@@ -1,8 +1,10 @@
 pub mod CrowdLemmas
-pub mod KeepingLemmas
+pub mod DeliveringLemmas
+pub mod HeldLemmas
 pub mod LighteningLemmas
 pub mod LosingLemmas
-pub mod MarkLemmas
-pub mod SettledLemmas
+pub mod NumberLemmas
+pub mod PlacesLemmas
+pub mod SweepLemmas
 pub mod TailLemmas
 pub mod TurnLemmas

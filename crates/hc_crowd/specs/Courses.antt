@@ -1,15 +1,11 @@
 -- How far a crowd has come, and when it serves no further client.
-use Rattle.std.specs.Prelude.{◌≡◌, ◌⊎◌, ◌≤◌, ℕ, ◌&&◌, ◌||◌, not, Bool, true, false, Option, Some, None, is_some, nat_lt, option_and_then, Result, Ok, Err}
+use Rattle.std.specs.Prelude.{◌≡◌, ◌⊎◌, ◌≤◌, ℕ, ◌&&◌, ◌||◌, not, Bool, true, false, Option, Some, None, Result, Ok, Err}
 use Rattle.std.specs.declared.alloc.AllocError.{AllocError}
-use Rattle.std.specs.BTreeMap.{get}
-use Rattle.std.specs.Ordering.{nat_cmp}
 use Rattle.hc_events.specs.declared.Happening.{Happening}
 use Rattle.hc_events.specs.declared.Happening.TheVariants.{ClientEnd}
-use Rattle.hc_flow.specs.Paces.{forward_due}
 use Rattle.hc_flow.specs.declared.pace.Pace.{Pace}
 use Rattle.hc_flow.specs.declared.pace.Pace.TheVariants.{Idle, Asking, Taking}
 use Rattle.hc_flow.specs.declared.patience.Patience.{Patience}
-use Rattle.hc_flow.specs.declared.progress.Progress.{Progress}
 use Rattle.hc_link_traits.specs.declared.happened.Happened.{Happened}
 use Rattle.hc_order.specs.declared.occurrence.Reason.{Reason}
 use Rattle.hc_order.specs.declared.occurrence.Reason.TheVariants.{Stop, Displaced}
@@ -20,7 +16,6 @@ use Rattle.hc_peers.specs.declared.peers.Peers.{Peers}
 use Rattle.hc_peers.specs.Tables.{is_there_and}
 use Rattle.hc_peers.specs.Hearings.{HasFailedAt, IsRead}
 use Rattle.hc_peers.specs.Known.{known_at}
-use Rattle.hc_peers.specs.Forwards.{is_linked_and, is_waiting, progress_at}
 use Rattle.hc_peers.specs.Peers.{is_client_overdue}
 use Rattle.hc_crowd.specs.declared.course.Course.{Course}
 use Rattle.hc_crowd.specs.declared.course.Course.TheVariants.{Serving, Ceasing, Draining, Late}
@@ -100,25 +95,6 @@ abbrev pub HaveAllCome : Option ℕ → ℕ → Type 0
 HaveAllCome None last = ⊥
 HaveAllCome (Some most) last = most ≤ last
 
--- no further client is served, since a stop was asked, or since all have come
-abbrev pub ServesNoMore : (stop_asked : Bool) → Option ℕ → ℕ → Type 0
-ServesNoMore stop_asked most last = (stop_asked ≡ true) ⊎ HaveAllCome most last
-
--- ---- forwards
-
--- whether a forward is there whose request waits for a link
-abbrev pub is_waiting_at : {S : Type 0} → (f : ℕ) → Peers S → Bool
-is_waiting_at f peers = is_there_and (get nat_cmp peers.forwards.links f) (λ forward. is_waiting forward.reaching)
-
--- whether a forward is there whose link isn't known to work yet
-abbrev pub is_opening_at : {S : Type 0} → (f : ℕ) → Peers S → Bool
-is_opening_at f peers = is_there_and (get nat_cmp peers.forwards.links f) (λ forward. is_linked_and forward.reaching (λ link. is_some link.spare))
-
--- how a forward is getting on at its link, if it has one
-abbrev pub progress_of : {S : Type 0} → (f : ℕ) → Peers S → Option Progress
-progress_of f peers = option_and_then (λ forward. progress_at forward.reaching) (get nat_cmp peers.forwards.links f)
-
--- whether a forward has a link, and its time is over by that tick
-abbrev pub is_forward_overdue : {S : Type 0} → (f : ℕ) → Peers S → (tick : ℕ) → Patience → Bool
-is_forward_overdue f peers tick patience =
-    is_there_and (progress_of f peers) (λ progress. nat_lt (forward_due progress patience) tick)
+-- no further client is served, since a stop was asked, of which the world told, or since all have come
+abbrev pub ServesNoMore : Course → (stop_asked : Bool) → Option ℕ → ℕ → Type 0
+ServesNoMore course stop_asked most last = ((stops course ≡ true) × (stop_asked ≡ true)) ⊎ HaveAllCome most last

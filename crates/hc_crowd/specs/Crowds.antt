@@ -8,6 +8,7 @@ use Rattle.hc_peers.specs.declared.peers.Peers.{Peers}
 use Rattle.hc_agenda.specs.MomentsKept.{told_by}
 use Rattle.hc_peers.specs.Peers.{ArePeers, Bounds}
 use Rattle.hc_peers.specs.Peers.Bounds.{AtMost}
+use Rattle.hc_attended.specs.declared.times.Times.{Times}
 use Rattle.hc_crowd.specs.declared.limits.Limits.{Limits}
 
 -- each moment is at most that of what was heard next, and the last is at most this one
@@ -21,6 +22,10 @@ AreUpTo latest (Closed link ∷ log) = AreUpTo latest log
 -- how many links a crowd's limits allow
 abbrev pub bounds_of : Limits → Bounds
 bounds_of limits = AtMost limits.connections limits.origin_connections
+
+-- how long links may take, by a crowd's limits
+abbrev pub times_of : Limits → Times
+times_of limits = record { patience = limits.patience; queue_timeout = limits.queue_timeout; connect_timeout = limits.connect_timeout }
 
 -- what passed at the links is what the log says, links are few, and moments follow one another up to the clock's
 abbrev pub CrowdTells : {S : Type 0} → (S → List ℕ → Type 0) → (S → List ℕ → Type 0) → Limits → Peers S → Moments → List Move → Type 0

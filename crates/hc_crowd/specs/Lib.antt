@@ -2,7 +2,5 @@ pub mod Abandoning
 pub mod Courses
 pub mod CrowdLaws
 pub mod Crowds
+pub mod Held
 pub mod Lightening
-pub mod Settled
-pub mod Tails
-pub mod Worlds

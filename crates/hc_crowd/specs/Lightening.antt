@@ -40,10 +40,11 @@ pub record LightenSoFar {S : Type 0} (most : ℕ) (loads left : List Load) (befo
   pub takes : TakeHeaviest most taken loads left
   pub others : (link : Receiver) → is_among link taken ≡ false → StaysAt link before after
 
--- the links that held most were cut off, until no more than so much was left, and no other link was
-pub record IsLightened {S : Type 0} (most : ℕ) (loads : List Load) (before after : Peers S) : Type 0 where
+-- the links that held most were cut off, until no more than so much was left, and no other link was; so much is held still
+pub record IsLightened {S : Type 0} (most : ℕ) (loads : List Load) (held : ℕ) (before after : Peers S) : Type 0 where
   pub left : List Load
   pub enough : total left ≤ most
+  pub held_is : held ≡ total left
   pub so_far : LightenSoFar most loads left before after
 
 -- ---- how much is held, and for which links
@@ -84,10 +85,10 @@ pub record AddsLoads {S : Type 0} (holds : Receiver → ℕ → Type 0) (peers :
   pub are : AreLoadsOf holds peers links loads
   pub added : after ≡ before ++ loads
 
--- each link was weighed that may be cut off, and those that hold most were cut off
-pub record IsBounded {S : Type 0} (holds : Receiver → ℕ → Type 0) (limit : ℕ) (before after : Peers S) : Type 0 where
+-- each link was weighed that may be cut off, and those that hold most were cut off; so much is held still
+pub record IsBounded {S : Type 0} (holds : Receiver → ℕ → Type 0) (limit held : ℕ) (before after : Peers S) : Type 0 where
   pub loads : List Load
   pub are : AreLoadsOf holds before (weighed before) loads
   pub ranked : List Load
   pub same : IsPermutation loads ranked
-  pub lightened : IsLightened (cuts_to limit) ranked before after
+  pub lightened : IsLightened (cuts_to limit) ranked held before after

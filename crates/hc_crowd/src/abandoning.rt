@@ -4,11 +4,11 @@ ghost use Rattle.std.specs.Prelude.{◌≡◌, ◌-◌, ◌⊎◌};
 ghost use Rattle.hc_crowd.specs.Abandoning.{all_left};
 
 use crate::traffic::Traffic;
-use crate::world::World;
+use hc_attended::World;
 use hc_events::Trouble;
 use hc_flow::{Readiness, Stream};
 use hc_link_traits::Awaiting;
-use hc_order::{Reason, Receiver};
+use hc_order::Reason;
 use hc_peers::Peers;
 use std::alloc::AllocError;
 
@@ -22,15 +22,13 @@ impl<W: World> Traffic<W> {
 
     /// Where a client has ended what it sends, or its link has failed, forwards are looked at so many milliseconds later:
     /// it may have waited for one.
-    pub(crate) fn note_leaving(&mut self, link: Receiver, readiness: Readiness, abandoned: u64)
-        ensures kept { KeepsPeers W.Stream.has_given W.Stream.has_got self.old.peers self.new.peers }
+    pub(crate) fn note_leaving(&mut self, readiness: Readiness, abandoned: u64)
+        ensures kept { KeepsPeers W.Stream.has_given W.Stream.has_got self.old.links.peers self.new.links.peers }
     {
-        let Receiver::Client(_) = link else {
-            return;
-        };
         if readiness.ended || readiness.failed {
-            self.agenda
-                .sweep_by(self.told.tick.saturating_add(abandoned));
+            self.links
+                .agenda
+                .sweep_by(self.links.time.tick.saturating_add(abandoned));
         }
     }
 
@@ -41,14 +39,14 @@ impl<W: World> Traffic<W> {
         cache: &A,
         abandoned: u64,
     ) -> Result<(), AllocError>
-        ensures kept { KeepsPeers W.Stream.has_given W.Stream.has_got self.old.peers self.new.peers }
+        ensures kept { KeepsPeers W.Stream.has_given W.Stream.has_got self.old.links.peers self.new.links.peers }
     {
-        if !self.agenda.takes_sweep(self.told.tick) {
+        if !self.links.agenda.takes_sweep(self.links.time.tick) {
             return Ok(());
         }
         let mut least = 0;
-        'forwards: for _ in 0..self.peers.forwards.len() {
-            let Some(forward) = self.peers.forwards.first_from(least) else {
+        'forwards: for _ in 0..self.links.peers.forwards.len() {
+            let Some(forward) = self.links.peers.forwards.first_from(least) else {
                 return Ok(());
             };
             self.look_who_waits(forward, cache, abandoned)?;
@@ -65,20 +63,20 @@ impl<W: World> Traffic<W> {
         cache: &A,
         abandoned: u64,
     ) -> Result<(), AllocError>
-        ensures kept { KeepsPeers W.Stream.has_given W.Stream.has_got self.old.peers self.new.peers }
+        ensures kept { KeepsPeers W.Stream.has_given W.Stream.has_got self.old.links.peers self.new.links.peers }
         // A forward fails for that only where it is abandoned, by what the cache may answer.
-        ensures only { (IsAbandoned (A.needed cache.now) (A.clients cache.now) (self.old.told.tick - abandoned) forward self.old.peers) ⊎ (self.new.peers ≡ self.old.peers) }
+        ensures only { (IsAbandoned (A.needed cache.now) (A.clients cache.now) (self.old.links.time.tick - abandoned) forward self.old.links.peers) ⊎ (self.new.links.peers ≡ self.old.links.peers) }
     {
         if cache.is_needed(forward) {
             return Ok(());
         }
         let clients = cache.clients_of(forward)?;
-        let since = self.told.tick.saturating_sub(abandoned);
+        let since = self.links.time.tick.saturating_sub(abandoned);
         if self.have_left(clients.as_slice(), since) {
             self.abandon(forward);
             return Ok(());
         }
-        let all_left = self.have_left(clients.as_slice(), self.told.tick);
+        let all_left = self.have_left(clients.as_slice(), self.links.time.tick);
         self.look_again_if(all_left);
         Ok(())
     }
@@ -86,7 +84,7 @@ impl<W: World> Traffic<W> {
     /// A forward is given up. Those who waited along with it may go to the origin for themselves now, so forwards are looked at
     /// again.
     fn abandon(&mut self, forward: u64)
-        ensures kept { KeepsPeers W.Stream.has_given W.Stream.has_got self.old.peers self.new.peers }
+        ensures kept { KeepsPeers W.Stream.has_given W.Stream.has_got self.old.links.peers self.new.links.peers }
     {
         self.give_up(forward, Trouble::Abandoned, Reason::Abandoned);
         self.look_again_if(true);
@@ -94,20 +92,21 @@ impl<W: World> Traffic<W> {
 
     /// Forwards are looked at again soon, where that is due.
     fn look_again_if(&mut self, is_due: bool)
-        ensures kept { KeepsPeers W.Stream.has_given W.Stream.has_got self.old.peers self.new.peers }
-        ensures peers { self.new.peers ≡ self.old.peers }
+        ensures kept { KeepsPeers W.Stream.has_given W.Stream.has_got self.old.links.peers self.new.links.peers }
+        ensures peers { self.new.links.peers ≡ self.old.links.peers }
     {
         if is_due {
-            self.agenda
-                .sweep_by(self.told.tick.saturating_add(LOOKS_AGAIN));
+            self.links
+                .agenda
+                .sweep_by(self.links.time.tick.saturating_add(LOOKS_AGAIN));
         }
     }
 
     /// Whether there are clients, and all of them had left by that millisecond.
     fn have_left(&self, clients: &[u64], by: u64) -> bool
-        ensures { result ≡ have_left by clients.now self.now.peers }
+        ensures { result ≡ have_left by clients.now self.now.links.peers }
     {
-        !clients.is_empty() && all_left(&self.peers, clients, by)
+        !clients.is_empty() && all_left(&self.links.peers, clients, by)
     }
 }
 

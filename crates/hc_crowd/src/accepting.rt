@@ -5,8 +5,7 @@ ghost use Rattle.std.specs.Prelude.{◌≡◌, IfSome, [], false, true};
 use crate::displacing::Displacement;
 use crate::limits::Limits;
 use crate::traffic::Traffic;
-use crate::world::{Accepted, World};
-use hc_agenda::Timeout;
+use hc_attended::{Accepted, World};
 use hc_link_traits::Awaiting;
 use std::alloc::AllocError;
 
@@ -18,7 +17,7 @@ impl<W: World> Traffic<W> {
     /// Whether further clients may be served: not all of those have been opened that are served, and no stop was asked, or
     /// some had connected by then.
     pub(crate) fn serves_more(&self, limits: Limits) -> bool
-        ensures { result ≡ false → ServesNoMore W.stop_asked limits.clients (last_given self.now.peers) }
+        ensures { result ≡ false → ServesNoMore self.now.told.course W.stop_asked limits.clients (last_given self.now.links.peers) }
     {
         if self.told.course.is_late() {
             return false;
@@ -27,7 +26,7 @@ impl<W: World> Traffic<W> {
             return false;
         }
         match limits.clients {
-            Some(most) => self.peers.last() < most,
+            Some(most) => self.links.peers.last() < most,
             None => true,
         }
     }
@@ -41,7 +40,8 @@ impl<W: World> Traffic<W> {
     fn may_serve_guest(&self, clients: Option<u64>) -> bool {
         match clients {
             Some(most) => {
-                (self.peers.guests.len() as u64) < most.saturating_sub(self.peers.last())
+                (self.links.peers.guests.len() as u64)
+                    < most.saturating_sub(self.links.peers.last())
             }
             None => true,
         }
@@ -57,38 +57,39 @@ impl<W: World> Traffic<W> {
     /// Whether a client may be turned away now, who has connected: there is room for that, and none waits for somebody to
     /// give way.
     fn turns_away(&self) -> bool {
-        self.peers.may_turn_away() && self.listening.held_until().is_none()
+        self.links.peers.may_turn_away() && self.listening.held_until().is_none()
     }
 
     /// Whether there is room for a further guest, or a client lingers that can give way.
     fn may_make_room(&self, most: usize) -> bool {
-        self.peers.has_room(most)
-            || (self.peers.has_fewer_open(most) && self.agenda.longest_lingering().is_some())
+        self.links.peers.has_room(most)
+            || (self.links.peers.has_fewer_open(most)
+                && self.links.agenda.longest_lingering().is_some())
     }
 
     /// Makes room for a client who may have connected: where there are as many links as there may be, that of the client
     /// goes that has lingered for longest. Answers whether there is room.
     fn make_room(&mut self, most: usize) -> bool
-        ensures kept { KeepsPeers W.Stream.has_given W.Stream.has_got self.old.peers self.new.peers }
-        ensures room { result ≡ true → HasRoom self.new.peers most }
-        ensures full { result ≡ false → HasRoom self.new.peers most → ⊥ }
+        ensures kept { KeepsPeers W.Stream.has_given W.Stream.has_got self.old.links.peers self.new.links.peers }
+        ensures room { result ≡ true → HasRoom self.new.links.peers most }
+        ensures full { result ≡ false → HasRoom self.new.links.peers most → ⊥ }
     {
-        if self.peers.has_room(most) {
+        if self.links.peers.has_room(most) {
             return true;
         }
         if !self.may_make_room(most) {
             return false;
         }
         self.give_way();
-        self.peers.has_room(most)
+        self.links.peers.has_room(most)
     }
 
     /// The client's link goes that has lingered for longest, if one does.
     fn give_way(&mut self)
-        ensures kept { KeepsPeers W.Stream.has_given W.Stream.has_got self.old.peers self.new.peers }
+        ensures kept { KeepsPeers W.Stream.has_given W.Stream.has_got self.old.links.peers self.new.links.peers }
     {
-        if let Some(number) = self.agenda.longest_lingering() {
-            self.let_go(number);
+        if let Some(number) = self.links.agenda.longest_lingering() {
+            self.links.let_go(number);
         }
     }
 
@@ -98,7 +99,7 @@ impl<W: World> Traffic<W> {
         cache: &A,
         limits: Limits,
     ) -> Result<(), AllocError>
-        ensures kept { KeepsWithin W.Stream.has_given W.Stream.has_got limits.connections self.old.peers self.new.peers }
+        ensures kept { KeepsWithin W.Stream.has_given W.Stream.has_got limits.connections self.old.links.peers self.new.links.peers }
     {
         'arrivals: for _ in 0..u64::MAX {
             if !self.accept(cache, limits)? {
@@ -111,7 +112,7 @@ impl<W: World> Traffic<W> {
     /// Accepts a client who has connected, if one is accepted in this batch still. Answers whether a further one may be
     /// accepted.
     fn accept<A: Awaiting>(&mut self, cache: &A, limits: Limits) -> Result<bool, AllocError>
-        ensures kept { KeepsWithin W.Stream.has_given W.Stream.has_got limits.connections self.old.peers self.new.peers }
+        ensures kept { KeepsWithin W.Stream.has_given W.Stream.has_got limits.connections self.old.links.peers self.new.links.peers }
     {
         if !self.listening.may_accept() {
             return Ok(false);
@@ -119,7 +120,7 @@ impl<W: World> Traffic<W> {
         if !self.accepts_more(limits) {
             return Ok(false);
         }
-        let Some(guest) = self.peers.next_guest() else {
+        let Some(guest) = self.links.peers.guests.next_number() else {
             return Ok(false);
         };
         if self.make_room(limits.connections) {
@@ -131,8 +132,8 @@ impl<W: World> Traffic<W> {
     /// There is no room. If a client has connected, who has been silent for longest gives way; where nobody is silent, and
     /// behind a stop, it is turned away. Answers whether a further one may be accepted.
     fn find_room<A: Awaiting>(&mut self, guest: u64, cache: &A, limits: Limits) -> bool
-        requires full { HasRoom self.old.peers limits.connections → ⊥ }
-        ensures kept { KeepsPeers W.Stream.has_given W.Stream.has_got self.old.peers self.new.peers }
+        requires full { HasRoom self.old.links.peers limits.connections → ⊥ }
+        ensures kept { KeepsPeers W.Stream.has_given W.Stream.has_got self.old.links.peers self.new.links.peers }
     {
         if self.told.course.stops() {
             return self.turn_away(guest, limits.connections);
@@ -149,7 +150,7 @@ impl<W: World> Traffic<W> {
 
     /// Whether the system is asked if a client has connected, since that isn't known: nobody gives way to nobody.
     fn asks_who_waits(&mut self) -> bool
-        ensures peers { self.new.peers ≡ self.old.peers }
+        ensures peers { self.new.links.peers ≡ self.old.links.peers }
     {
         if self.listening.is_known() {
             return false;
@@ -163,22 +164,20 @@ impl<W: World> Traffic<W> {
 
     /// Accepts a client who has connected as a guest of that number: there is room.
     fn invite(&mut self, guest: u64, limits: Limits) -> Result<bool, AllocError>
-        requires room { HasRoom self.old.peers limits.connections }
-        ensures kept { KeepsWithin W.Stream.has_given W.Stream.has_got limits.connections self.old.peers self.new.peers }
+        requires room { HasRoom self.old.links.peers limits.connections }
+        ensures kept { KeepsWithin W.Stream.has_given W.Stream.has_got limits.connections self.old.links.peers self.new.links.peers }
     {
         let Some(stream) = self.arrival(guest) else {
             return Ok(false);
         };
-        self.peers.invite(guest, stream, limits.connections)?;
-        let due = self.due_behind(limits.patience.idle_timeout);
-        self.agenda.note(Timeout::Guest, due, guest);
+        self.links.invite(guest, stream, limits.connections)?;
         Ok(true)
     }
 
     /// The link of a client who has connected, if one has. What becomes ready there is told with that number.
     pub(crate) fn arrival(&mut self, guest: u64) -> Option<W::Stream>
-        ensures kept { KeepsPeers W.Stream.has_given W.Stream.has_got self.old.peers self.new.peers }
-        ensures peers { self.new.peers ≡ self.old.peers }
+        ensures kept { KeepsPeers W.Stream.has_given W.Stream.has_got self.old.links.peers self.new.links.peers }
+        ensures peers { self.new.links.peers ≡ self.old.links.peers }
         ensures fresh { IfSome result (λ stream. W.Stream.has_given stream [] × W.Stream.has_got stream []) }
     {
         match self.world.accept(guest) {

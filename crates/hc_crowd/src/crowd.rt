@@ -1,12 +1,13 @@
 //! Many clients at once, and the origin, in one thread.
 
 ghost use Rattle.std.specs.Prelude.{◌≡◌, [], IfOk};
+ghost use Rattle.hc_crowd.specs.Held.{GrowsBy, octets_of};
 
 use crate::limits::Limits;
 use crate::traffic::Traffic;
 use crate::troubles::Troubles;
-use crate::world::World;
-use hc_agenda::Moments;
+use hc_agenda::{Holding, Moments};
+use hc_attended::World;
 use hc_events::{Event, Happening};
 use hc_framing::MessageText;
 use hc_link_traits::{Awaiting, Batches, Happened, Links};
@@ -25,6 +26,8 @@ pub struct Crowd<W: World> {
     limits: Limits,
     clock: Moments,
     traffic: Traffic<W>,
+    /// How much is held of what came, and of what was sent.
+    holding: Holding,
 }
 
 impl<W: World + Drop> Drop for Crowd<W> {
@@ -33,36 +36,44 @@ impl<W: World + Drop> Drop for Crowd<W> {
             limits: _,
             clock: _,
             traffic,
+            holding: _,
         } = self;
         drop(traffic);
     }
 }
 
 impl<W: World + Drop> Crowd<W> {
-    ghost use Rattle.hc_crowd.specs.Crowds.{CrowdTells};
+    ghost use Rattle.hc_crowd.specs.Crowds.{CrowdTells, times_of};
     ghost use Rattle.hc_peers.specs.Shown.{ShowNoMore};
 
     /// Nobody has connected yet.
     pub fn new(alloc: Global, world: W, limits: Limits) -> Result<Self, AllocError>
-        ensures tells { IfOk result (λ crowd. CrowdTells W.Stream.has_given W.Stream.has_got crowd.limits crowd.traffic.peers crowd.clock []) }
-        ensures shows { IfOk result (λ crowd. ShowNoMore W.Stream.has_got crowd.traffic.peers []) }
+        ensures tells { IfOk result (λ crowd. CrowdTells W.Stream.has_given W.Stream.has_got crowd.limits crowd.traffic.links.peers crowd.clock []) }
+        ensures shows { IfOk result (λ crowd. ShowNoMore W.Stream.has_got crowd.traffic.links.peers []) }
         ensures limits { IfOk result (λ crowd. crowd.limits ≡ limits) }
+        ensures times { IfOk result (λ crowd. crowd.traffic.links.times ≡ times_of limits) }
     {
         let clock = Moments::new(world.wall(), world.monotonic());
-        let traffic = Traffic::new(alloc, world, limits.origin_connections)?;
+        let traffic = Traffic::new(alloc, world, limits)?;
         Ok(Crowd {
             limits,
             clock,
             traffic,
+            holding: Holding::new(),
         })
     }
 }
 
 impl<W: World> Crowd<W> {
     ghost use Rattle.hc_crowd.specs.Crowds.{CrowdTells, MayTell};
+    ghost use Rattle.std.specs.Prelude.{◌⊎◌, IsErr, List, length};
     ghost use Rattle.hc_agenda.specs.Moments.{History, is_behind_in};
     ghost use Rattle.hc_agenda.specs.MomentsKept.{Tells, told_by};
-    ghost use Rattle.hc_peers.specs.Peers.{last_given};
+    ghost use Rattle.hc_crowd.specs.Held.{HoldsWhatCame, grown_by};
+    ghost use Rattle.hc_link_traits.specs.Telling.{TellsSent};
+    ghost use Rattle.hc_order.specs.Log.{Move};
+    ghost use Rattle.hc_peers.specs.Keeping.{HearsWithin};
+    ghost use Rattle.hc_peers.specs.Peers.{ArePeers, Bounds, last_given};
     ghost use Rattle.hc_peers.specs.Shown.{ShowNoMore};
 
     /// That happens now.
@@ -79,6 +90,32 @@ impl<W: World> Crowd<W> {
         Occurrence { event, reason }
     }
 
+    /// What happens next. The octets that came by it are held from then on.
+    fn hear_next<A: Awaiting>(&mut self, cache: &A) -> Result<Option<Happened>, AllocError>
+        ensures heard { HearsWithin W.Stream.has_given W.Stream.has_got self.old.limits.connections (A.awaited cache.now) result self.old.traffic.links.peers self.new.traffic.links.peers }
+        ensures rest { (self.new.limits ≡ self.old.limits) × (self.new.clock ≡ self.old.clock) }
+        ensures held { HoldsWhatCame W.Stream (A.holds cache.now) self.old.limits.held result self.old.holding self.new.holding }
+    {
+        let happened = self
+            .traffic
+            .happening(cache, self.limits, &mut self.holding)?;
+        grow(&mut self.holding, &happened);
+        Ok(happened)
+    }
+
+    /// Octets are owed to a client, or a forward is opened. They are held from then on.
+    fn owe(&mut self, to: Receiver, octets: &MessageText) -> Result<(), AllocError>
+        ensures tells { (bounds : Bounds) (log : List Move) → ArePeers W.Stream.has_given W.Stream.has_got bounds self.old.traffic.links.peers log
+            → TellsSent (ArePeers W.Stream.has_given W.Stream.has_got bounds self.new.traffic.links.peers) result to octets.now log }
+        ensures shown { (log : List Move) → ShowNoMore W.Stream.has_got self.old.traffic.links.peers log → ShowNoMore W.Stream.has_got self.new.traffic.links.peers log }
+        ensures rest { (self.new.limits ≡ self.old.limits) × (self.new.clock ≡ self.old.clock) }
+        ensures held { (self.new.holding ≡ grown_by (length octets.now) self.old.holding) ⊎ (IsErr result × (self.new.holding ≡ self.old.holding)) }
+    {
+        self.traffic.links.send(to, octets)?;
+        self.holding.grow(octets.len());
+        Ok(())
+    }
+
     /// Whether the wall clock was behind the moment that is told by more than ten seconds when it was last read.
     pub fn is_behind(&self) -> bool
         ensures { (history : History) → Tells self.now.clock history → result ≡ is_behind_in history }
@@ -93,14 +130,14 @@ impl<W: World> Crowd<W> {
 
     /// The milliseconds that the world's clock has counted which is never set, as it was last looked at.
     pub fn tick(&self) -> u64 {
-        self.traffic.told.tick
+        self.traffic.links.time.tick
     }
 
     /// How many clients have connected.
     pub fn accepted(&self) -> u64
-        ensures { result ≡ last_given self.now.traffic.peers }
+        ensures { result ≡ last_given self.now.traffic.links.peers }
     {
-        self.traffic.peers.last()
+        self.traffic.links.peers.last()
     }
 }
 
@@ -111,9 +148,9 @@ impl<W: World> Links for Crowd<W> {
     ghost use Rattle.hc_peers.specs.Peers.{HasFewLinks};
     ghost use Rattle.hc_peers.specs.Shown.{ShowNoMore};
 
-    ghost tells = { λ crowd. CrowdTells W.Stream.has_given W.Stream.has_got crowd.limits crowd.traffic.peers crowd.clock };
+    ghost tells = { λ crowd. CrowdTells W.Stream.has_given W.Stream.has_got crowd.limits crowd.traffic.links.peers crowd.clock };
 
-    ghost shows = { λ crowd. ShowNoMore W.Stream.has_got crowd.traffic.peers };
+    ghost shows = { λ crowd. ShowNoMore W.Stream.has_got crowd.traffic.links.peers };
 
     // A further batch may bring more.
     ghost rests = { λ _. Unit {0} };
@@ -125,16 +162,15 @@ impl<W: World> Links for Crowd<W> {
     ghost bounds = { λ crowd. crowd.limits };
 
     // As many as its limits say, those that linger among them.
-    ghost within = { λ limits crowd. HasFewLinks (bounds_of limits) crowd.traffic.peers };
+    ghost within = { λ limits crowd. HasFewLinks (bounds_of limits) crowd.traffic.links.peers };
 
     ghost may_tell = { λ crowd. MayTell crowd.clock };
 
     ghost heeds = { IsInTurn };
 
     fn next<A: Awaiting>(&mut self, cache: &A) -> Result<Option<Occurrence>, AllocError> {
-        match self.traffic.happening(cache, self.limits)? {
+        match self.hear_next(cache)? {
             Some(happened) => {
-                self.traffic.holding.grow(octets_of(&happened.of));
                 self.traffic.handed = true;
                 Ok(Some(self.now(happened)))
             }
@@ -143,7 +179,7 @@ impl<W: World> Links for Crowd<W> {
     }
 
     fn send(&mut self, to: Receiver, octets: &MessageText) -> Result<(), AllocError> {
-        self.traffic.send(to, octets)
+        self.owe(to, octets)
     }
 
     fn close(&mut self, link: Receiver) {
@@ -152,18 +188,21 @@ impl<W: World> Links for Crowd<W> {
 }
 
 impl<W: World> Batches for Crowd<W> {
+    ghost use Rattle.hc_attended.specs.Settled.{IsSettled};
     ghost use Rattle.hc_crowd.specs.Courses.{ServesNoMore};
     ghost use Rattle.hc_crowd.specs.CrowdLaws.{links_are_few, none_is_open, told_in_time};
     ghost use Rattle.hc_peers.specs.Peers.{NoLinkIsLeft, last_given};
 
-    ghost over = { λ crowd. NoLinkIsLeft crowd.traffic.peers × ServesNoMore W.stop_asked crowd.limits.clients (last_given crowd.traffic.peers) };
+    ghost over = { λ crowd. NoLinkIsLeft crowd.traffic.links.peers × ServesNoMore crowd.traffic.told.course W.stop_asked crowd.limits.clients (last_given crowd.traffic.links.peers) };
+
+    ghost settled = { λ crowd. IsSettled crowd.traffic.links.times crowd.traffic.links.time.tick crowd.traffic.links.peers crowd.traffic.links.agenda };
 
     /// It begins to connect for forwards that wait, as far as there are places. Where memory is refused for a note of what
     /// is to be done, links may wait for ever, so whoever drives the crowd should end then.
     fn deliver<A: Awaiting>(&mut self, cache: &A) -> Result<(), AllocError> {
-        self.traffic.look_at_clock();
-        self.traffic.sort_opened(cache, self.limits);
-        self.traffic.give_places(self.limits);
+        self.traffic.links.look_at_clock(&self.traffic.world);
+        self.traffic.sort_opened(cache);
+        self.traffic.give_places();
         self.traffic.write_owed();
         self.traffic.refusal()
     }
@@ -182,15 +221,26 @@ impl<W: World> Batches for Crowd<W> {
         self.traffic.is_over(self.limits)
     }
 
-    ghost in_time = { λ crowd. told_in_time W.Stream.has_given W.Stream.has_got crowd.limits crowd.traffic.peers crowd.clock };
+    ghost in_time = { λ crowd. told_in_time W.Stream.has_given W.Stream.has_got crowd.limits crowd.traffic.links.peers crowd.clock };
 
-    ghost few = { λ crowd. links_are_few W.Stream.has_given W.Stream.has_got crowd.limits crowd.traffic.peers crowd.clock };
+    ghost few = { λ crowd. links_are_few W.Stream.has_given W.Stream.has_got crowd.limits crowd.traffic.links.peers crowd.clock };
 
-    ghost all_closed = { λ crowd log over. none_is_open W.Stream.has_given W.Stream.has_got crowd.limits crowd.traffic.peers crowd.clock log over.0 };
+    ghost all_closed = { λ crowd log over. none_is_open W.Stream.has_given W.Stream.has_got crowd.limits crowd.traffic.links.peers crowd.clock log over.0 };
+}
+
+/// The octets that came by what happens are held from then on.
+fn grow(holding: &mut Holding, happened: &Option<Happened>)
+    ensures { GrowsBy happened.now holding.old holding.new }
+{
+    if let Some(happened) = happened {
+        holding.grow(octets_of(&happened.of));
+    }
 }
 
 /// How many octets came by that.
-fn octets_of(happening: &Happening) -> usize {
+fn octets_of(happening: &Happening) -> usize
+    ensures { result ≡ octets_of happening.now }
+{
     match happening {
         Happening::ClientOpened(_) => 0,
         Happening::ClientBytes(_, octets) => octets.len(),

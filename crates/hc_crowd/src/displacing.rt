@@ -4,7 +4,7 @@ ghost use Rattle.std.specs.Prelude.{◌≡◌};
 
 use crate::limits::Limits;
 use crate::traffic::Traffic;
-use crate::world::World;
+use hc_attended::World;
 use hc_flow::{Pace, Patience};
 use hc_link_traits::Awaiting;
 use hc_order::Receiver;
@@ -47,23 +47,23 @@ impl<W: World> Traffic<W> {
 
     /// Where there is no room, who has been silent for longest gives way: a guest at once, and a client once its end is heard.
     pub(crate) fn displace<A: Awaiting>(&mut self, cache: &A, limits: Limits) -> Displacement
-        requires full { HasRoom self.old.peers limits.connections → ⊥ }
-        ensures kept { KeepsPeers W.Stream.has_given W.Stream.has_got self.old.peers self.new.peers }
-        ensures nobody { result ≡ Displacement.Nobody → self.new.peers ≡ self.old.peers }
+        requires full { HasRoom self.old.links.peers limits.connections → ⊥ }
+        ensures kept { KeepsPeers W.Stream.has_given W.Stream.has_got self.old.links.peers self.new.links.peers }
+        ensures nobody { result ≡ Displacement.Nobody → self.new.links.peers ≡ self.old.links.peers }
     {
         // All clients are looked at once in a batch.
         if self.giving_way.is_some() || self.listening.held_until().is_some() {
             return Displacement::Later;
         }
-        if self.told.tick < self.busy_until {
+        if self.links.time.tick < self.busy_until {
             return Displacement::Nobody;
         }
         let Some(silent) = self.longest_silent(cache, limits.patience) else {
-            self.busy_until = self.due_behind(LOOKS_AGAIN);
+            self.busy_until = self.links.due_behind(LOOKS_AGAIN);
             return Displacement::Nobody;
         };
         let due = silent.since.saturating_add(SHORTEST_SILENCE);
-        if self.told.tick < due {
+        if self.links.time.tick < due {
             self.listening.hold(due);
             return Displacement::Later;
         }
@@ -73,11 +73,11 @@ impl<W: World> Traffic<W> {
     /// Whoever is silent gives way.
     fn let_give_way(&mut self, who: Who) -> Displacement
         ensures gone { result ≡ Displacement.Nobody → ⊥ }
-        ensures kept { KeepsPeers W.Stream.has_given W.Stream.has_got self.old.peers self.new.peers }
+        ensures kept { KeepsPeers W.Stream.has_given W.Stream.has_got self.old.links.peers self.new.links.peers }
     {
         match who {
             Who::Guest(guest) => {
-                self.displace_guest(guest);
+                self.links.end_guest(guest);
                 Displacement::Now
             }
             Who::Client(number) => {
@@ -87,28 +87,20 @@ impl<W: World> Traffic<W> {
         }
     }
 
-    /// A guest gives way: it goes, unless octets of it have come.
-    fn displace_guest(&mut self, guest: u64)
-        ensures kept { KeepsPeers W.Stream.has_given W.Stream.has_got self.old.peers self.new.peers }
-    {
-        self.agenda.forget_guest(guest);
-        self.end_guest(guest);
-    }
-
     /// A client is asked to give way, and is heard before all others.
     fn ask_to_give_way(&mut self, number: u64)
-        ensures kept { KeepsPeers W.Stream.has_given W.Stream.has_got self.old.peers self.new.peers }
+        ensures kept { KeepsPeers W.Stream.has_given W.Stream.has_got self.old.links.peers self.new.links.peers }
     {
         self.giving_way = Some(number);
-        self.give_turn_now(Receiver::Client(number));
+        self.links.give_turn_now(Receiver::Client(number));
     }
 
     /// Who has been silent for longest, a guest or a client, if anybody is.
     fn longest_silent<A: Awaiting>(&self, cache: &A, patience: Patience) -> Option<Silent> {
         let mut longest = self.longest_silent_guest(patience);
         let mut least = 0;
-        'clients: for _ in 0..self.peers.clients.len() {
-            let Some(number) = self.peers.clients.first_from(least) else {
+        'clients: for _ in 0..self.links.peers.clients.len() {
+            let Some(number) = self.links.peers.clients.first_from(least) else {
                 return longest;
             };
             longest = longer(longest, self.silent_client(number, cache));
@@ -119,7 +111,7 @@ impl<W: World> Traffic<W> {
 
     /// The guest that has been silent for longest: the one whose time is over first.
     fn longest_silent_guest(&self, patience: Patience) -> Option<Silent> {
-        let deadline = self.agenda.longest_silent_guest()?;
+        let deadline = self.links.agenda.longest_silent_guest()?;
         Some(Silent {
             who: Who::Guest(deadline.number),
             since: deadline.tick.saturating_sub(patience.idle_timeout),
@@ -128,7 +120,7 @@ impl<W: World> Traffic<W> {
 
     /// A client, where it is served, nothing is owed to it, and nothing has come of its next request.
     fn silent_client<A: Awaiting>(&self, number: u64, cache: &A) -> Option<Silent> {
-        let client = self.peers.clients.get(number)?;
+        let client = self.links.peers.clients.get(number)?;
         if client.is_closed() || client.is_readable() {
             return None;
         }

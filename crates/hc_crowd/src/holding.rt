@@ -1,11 +1,11 @@
 //! Which links are cut off where too much is held beside the store.
 
-ghost use Rattle.std.specs.Prelude.{◌+◌, ◌-◌, ◌^◌, ◌≡◌, ◌≤◌, ◌⊎◌, ◌||◌, ◌++◌, ◌∷◌, [], IfOk, OnOk, min};
+ghost use Rattle.std.specs.Prelude.{◌+◌, ◌-◌, ◌^◌, ◌≡◌, ◌≤◌, ◌⊎◌, ◌||◌, ◌++◌, ◌∷◌, [], IfOk, OnErr, OnOk, min};
 ghost use Rattle.hc_peers.specs.Forwards.{has_link, is_waiting};
 
 use crate::traffic::Traffic;
-use crate::world::World;
 use hc_agenda::{Holding, Load, Ranking, Reckoning};
+use hc_attended::World;
 use hc_events::Trouble;
 use hc_flow::Stream;
 use hc_link_traits::Awaiting;
@@ -16,7 +16,6 @@ use std::alloc::AllocError;
 impl<W: World> Traffic<W> {
     ghost use Rattle.hc_agenda.specs.Loads.{cuts_to, looks_above, most_held};
     ghost use Rattle.hc_peers.specs.Keeping.{KeepsPeers};
-    ghost use Rattle.hc_peers.specs.Peers.{ChangesOnly};
     ghost use Rattle.hc_agenda.specs.declared.reckoning.Load.{Load};
     ghost use Rattle.hc_crowd.specs.Lightening.{AddsLoads, IsBounded, IsLightened, IsLoadOf, OthersStay, weighed_clients, weighed_forwards};
 
@@ -26,18 +25,23 @@ impl<W: World> Traffic<W> {
         &mut self,
         cache: &A,
         limit: u64,
+        holding: &mut Holding,
     ) -> Result<(), AllocError>
-        ensures kept { KeepsPeers W.Stream.has_given W.Stream.has_got self.old.peers self.new.peers }
-        ensures light { IfOk result (λ _. most_held self.new.holding ≤ looks_above limit) }
-        ensures cuts { IfOk result (λ _. (self.new.peers ≡ self.old.peers) ⊎ IsBounded (A.holds cache.now) limit self.old.peers self.new.peers) }
+        ensures kept { KeepsPeers W.Stream.has_given W.Stream.has_got self.old.links.peers self.new.links.peers }
+        ensures light { IfOk result (λ _. most_held holding.new ≤ looks_above limit) }
+        // Nothing is counted off but by that: what was held before is held still, or each link was weighed.
+        ensures cuts { IfOk result (λ _. ((self.new.links.peers ≡ self.old.links.peers) × (holding.new ≡ holding.old))
+            ⊎ IsBounded (A.holds cache.now) limit (most_held holding.new) self.old.links.peers self.new.links.peers) }
+        ensures refused { OnErr result (holding.new ≡ holding.old) }
     {
-        if !self.holding.looks(limit) {
+        if !holding.looks(limit) {
             return Ok(());
         }
         let mut reckoning = Reckoning::new(self.alloc);
         self.weigh_clients(cache, &mut reckoning)?;
         self.weigh_forwards(cache, &mut reckoning)?;
-        self.lighten(reckoning.into_ranking(), limit);
+        let left = self.lighten(reckoning.into_ranking(), limit);
+        *holding = Holding::reckoned(left);
         Ok(())
     }
 
@@ -47,9 +51,9 @@ impl<W: World> Traffic<W> {
         cache: &A,
         reckoning: &mut Reckoning,
     ) -> Result<(), AllocError>
-        ensures { OnOk result (AddsLoads (A.holds cache.now) self.now.peers (weighed_clients self.now.peers.clients.links.entries) reckoning.old.loads.items reckoning.new.loads.items) }
+        ensures { OnOk result (AddsLoads (A.holds cache.now) self.now.links.peers (weighed_clients self.now.links.peers.clients.links.entries) reckoning.old.loads.items reckoning.new.loads.items) }
     {
-        'clients: for (number, client) in self.peers.clients.iter() {
+        'clients: for (number, client) in self.links.peers.clients.iter() {
             if client.is_cut() {
                 continue;
             }
@@ -64,9 +68,9 @@ impl<W: World> Traffic<W> {
         cache: &A,
         reckoning: &mut Reckoning,
     ) -> Result<(), AllocError>
-        ensures { OnOk result (AddsLoads (A.holds cache.now) self.now.peers (weighed_forwards self.now.peers.forwards.links.entries) reckoning.old.loads.items reckoning.new.loads.items) }
+        ensures { OnOk result (AddsLoads (A.holds cache.now) self.now.links.peers (weighed_forwards self.now.links.peers.forwards.links.entries) reckoning.old.loads.items reckoning.new.loads.items) }
     {
-        'forwards: for (number, forward) in self.peers.forwards.iter() {
+        'forwards: for (number, forward) in self.links.peers.forwards.iter() {
             if !is_underway(forward) {
                 continue;
             }
@@ -82,44 +86,36 @@ impl<W: World> Traffic<W> {
         cache: &A,
         reckoning: &mut Reckoning,
     ) -> Result<(), AllocError>
-        ensures { OnOk result ((added : Load) × IsLoadOf (A.holds cache.now) self.now.peers link added
+        ensures { OnOk result ((added : Load) × IsLoadOf (A.holds cache.now) self.now.links.peers link added
             × (reckoning.new.loads.items ≡ reckoning.old.loads.items ++ added ∷ [])) }
     {
-        reckoning.add(load(link, self.peers.weight(link), cache.held(link)))
+        reckoning.add(load(link, self.links.peers.weight(link), cache.held(link)))
     }
 
-    /// Cuts off the links that hold most, the heaviest first, until no more is held than an eighth less than the limit.
-    fn lighten(&mut self, ranking: Ranking, limit: u64)
-        ensures kept { KeepsPeers W.Stream.has_given W.Stream.has_got self.old.peers self.new.peers }
-        ensures light { most_held self.new.holding ≤ cuts_to limit }
-        ensures cuts { IsLightened (cuts_to limit) ranking.loads.items self.old.peers self.new.peers }
+    /// Cuts off the links that hold most, the heaviest first, until no more is held than an eighth less than the limit. Returns
+    /// how much is held still.
+    fn lighten(&mut self, ranking: Ranking, limit: u64) -> u64
+        ensures kept { KeepsPeers W.Stream.has_given W.Stream.has_got self.old.links.peers self.new.links.peers }
+        ensures light { result ≤ cuts_to limit }
+        ensures cuts { IsLightened (cuts_to limit) ranking.loads.items result self.old.links.peers self.new.links.peers }
     {
         let most = Holding::cuts_to(limit);
         let mut ranking = ranking;
         'loads: while let Some(heaviest) = ranking.take_heaviest(most) {
             self.cut_off(heaviest.link);
         }
-        self.holding = Holding::reckoned(ranking.sum());
+        ranking.sum()
     }
 
     /// So much is held for a link that it is cut off: what is owed there is lost, and that is told in its turn, at once.
     fn cut_off(&mut self, link: Receiver)
-        ensures kept { KeepsPeers W.Stream.has_given W.Stream.has_got self.old.peers self.new.peers }
-        ensures others { OthersStay link self.old.peers self.new.peers }
+        ensures kept { KeepsPeers W.Stream.has_given W.Stream.has_got self.old.links.peers self.new.links.peers }
+        ensures others { OthersStay link self.old.links.peers self.new.links.peers }
     {
         self.troubles.note(link, Trouble::Heavy);
-        self.lose_heavy(link);
-        self.give_turn_now(link);
-    }
-
-    /// What is owed at a link is lost, since so much is held for it.
-    fn lose_heavy(&mut self, link: Receiver)
-        ensures kept { KeepsPeers W.Stream.has_given W.Stream.has_got self.old.peers self.new.peers }
-        ensures only { ChangesOnly link self.old.peers self.new.peers }
-    {
         match link {
-            Receiver::Client(number) => self.peers.cut_off(number),
-            Receiver::Origin(forward) => self.peers.lose_origin(forward, Reason::Held),
+            Receiver::Client(number) => self.links.cut_off(number),
+            Receiver::Origin(forward) => self.links.lose_origin_now(forward, Reason::Held),
         }
     }
 }

@@ -10,7 +10,6 @@ mod displacing;
 mod holding;
 mod limits;
 mod reaching;
-mod settled;
 mod told;
 mod traffic;
 mod troubles;
@@ -19,13 +18,9 @@ mod turning_away;
 mod waiting;
 mod watching;
 mod welcoming;
-mod world;
 
 pub use crowd::Crowd;
+pub use hc_attended::{Accepted, Ready, World};
 pub use hc_flow::Patience;
 pub use limits::Limits;
-pub use settled::{
-    a_crowd_without_links_is_settled, nothing_is_left_lying, who_is_to_be_heard_has_a_turn,
-};
 pub use troubles::{Counted, Troubles, Whose};
-pub use world::{Accepted, Ready, World};

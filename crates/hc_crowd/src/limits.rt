@@ -1,5 +1,6 @@
 //! What bounds a crowd.
 
+use hc_attended::Times;
 use hc_flow::Patience;
 
 /// What bounds a crowd.
@@ -26,4 +27,20 @@ pub struct Limits {
     pub drain_timeout: u64,
     /// Behind so many clients no further one is accepted, and the crowd is over once all have gone.
     pub clients: Option<u64>,
+}
+
+impl Limits {
+    ghost use Rattle.std.specs.Prelude.{◌≡◌};
+    ghost use Rattle.hc_crowd.specs.Crowds.{times_of};
+
+    /// How long links may take.
+    pub(crate) fn times(self) -> Times
+        ensures { result ≡ times_of self }
+    {
+        Times {
+            patience: self.patience,
+            queue_timeout: self.queue_timeout,
+            connect_timeout: self.connect_timeout,
+        }
+    }
 }

@@ -4,25 +4,30 @@ ghost use Rattle.std.specs.Prelude.{◌≡◌, ◌⊎◌, ◌&&◌, ◌||◌, no
 
 use crate::limits::Limits;
 use crate::traffic::Traffic;
-use crate::world::World;
+use hc_agenda::Holding;
+use hc_attended::World;
 use hc_events::Happening;
 use hc_flow::{Heard, Pace, Patience};
 use hc_link_traits::{Awaiting, Happened};
 use hc_order::{Reason, Receiver};
-use hc_peers::{Hearing, Remainder, happened};
+use hc_peers::{Hearing, happened};
 use std::alloc::AllocError;
 
 impl<W: World> Traffic<W> {
     ghost use Rattle.hc_crowd.specs.Courses.{EndsUnbegun, FailsAt, HasGrounds, ends_idle, is_idle, is_over_for, is_over_in_any_case, stops};
-    ghost use Rattle.hc_crowd.specs.Tails.{KeepsTail, LetsGo};
+    ghost use Rattle.hc_agenda.specs.Turns.{IsFirstTurn};
+    ghost use Rattle.hc_crowd.specs.Held.{HoldsAsWeighed};
+    ghost use Rattle.hc_attended.specs.Tails.{KeepsTail};
+    ghost use Rattle.hc_peers.specs.Behind.{can_retry};
+    ghost use Rattle.hc_peers.specs.Lingering.{is_lingering};
     ghost use Rattle.hc_peers.specs.declared.client.Hearing.{Hearing};
     ghost use Rattle.hc_order.specs.declared.receiver.Receiver.TheVariants.{Client, Origin};
     ghost use Rattle.hc_peers.specs.Heard.{IsAnswerOf, NoAnswer, told};
-    ghost use Rattle.hc_peers.specs.Hearings.{ClientFailsOnly, IsHeardFor, IsToldAtOnce};
+    ghost use Rattle.hc_peers.specs.Hearings.{IsHeardFor, IsToldAtOnce};
     ghost use Rattle.hc_peers.specs.Keeping.{Hears, HearsWithin, KeepsPeers};
     ghost use Rattle.hc_peers.specs.Losses.{IsLossOf};
     ghost use Rattle.hc_peers.specs.Tables.{is_there_and};
-    ghost use Rattle.hc_peers.specs.Known.{KeepsKnown, is_cut_at, is_open_at, known_at};
+    ghost use Rattle.hc_peers.specs.Known.{is_cut_at, is_open_at, known_at};
     ghost use Rattle.std.specs.BTreeMap.{get};
     ghost use Rattle.std.specs.Ordering.{nat_cmp};
 
@@ -33,8 +38,10 @@ impl<W: World> Traffic<W> {
         &mut self,
         cache: &A,
         limits: Limits,
+        holding: &mut Holding,
     ) -> Result<Option<Happened>, AllocError>
-        ensures heard { HearsWithin W.Stream.has_given W.Stream.has_got limits.connections (A.awaited cache.now) result self.old.peers self.new.peers }
+        ensures heard { HearsWithin W.Stream.has_given W.Stream.has_got limits.connections (A.awaited cache.now) result self.old.links.peers self.new.links.peers }
+        ensures held { HoldsAsWeighed W.Stream (A.holds cache.now) limits.held holding.old holding.new }
     {
         self.note_incidents(cache);
         if self.announces_stop() {
@@ -44,10 +51,10 @@ impl<W: World> Traffic<W> {
             }));
         }
         self.accept_all(cache, limits)?;
-        self.bound_held(cache, limits.held)?;
+        self.bound_held(cache, limits.held, holding)?;
         self.give_up_abandoned(cache, limits.abandoned)?;
         self.troubles.count_noted(cache);
-        if let Some(happened) = self.take_turns(cache, limits)? {
+        if let Some(happened) = self.take_turns(cache, limits.patience)? {
             return Ok(Some(happened));
         }
         self.welcome(limits)
@@ -55,8 +62,8 @@ impl<W: World> Traffic<W> {
 
     /// Counts what was wrong with what was handed to the cache last. Something is handed to it now, or else in a later batch.
     fn note_incidents<A: Awaiting>(&mut self, cache: &A)
-        ensures kept { KeepsPeers W.Stream.has_given W.Stream.has_got self.old.peers self.new.peers }
-        ensures peers { self.new.peers ≡ self.old.peers }
+        ensures kept { KeepsPeers W.Stream.has_given W.Stream.has_got self.old.links.peers self.new.links.peers }
+        ensures peers { self.new.links.peers ≡ self.old.links.peers }
         ensures course { (self.new.told.course ≡ self.old.told.course) × (self.new.announced ≡ self.old.announced) }
     {
         if self.handed {
@@ -67,8 +74,8 @@ impl<W: World> Traffic<W> {
 
     /// Whether the cache is to be told of a stop now: one was asked, and it wasn't told yet.
     fn announces_stop(&mut self) -> bool
-        ensures kept { KeepsPeers W.Stream.has_given W.Stream.has_got self.old.peers self.new.peers }
-        ensures peers { self.new.peers ≡ self.old.peers }
+        ensures kept { KeepsPeers W.Stream.has_given W.Stream.has_got self.old.links.peers self.new.links.peers }
+        ensures peers { self.new.links.peers ≡ self.old.links.peers }
         ensures once { result ≡ (stops self.old.told.course && not self.old.announced) }
         ensures told { self.new.announced ≡ (self.old.announced || stops self.old.told.course) }
     {
@@ -83,16 +90,16 @@ impl<W: World> Traffic<W> {
     fn take_turns<A: Awaiting>(
         &mut self,
         cache: &A,
-        limits: Limits,
+        patience: Patience,
     ) -> Result<Option<Happened>, AllocError>
-        ensures heard { Hears W.Stream.has_given W.Stream.has_got (A.awaited cache.now) result self.old.peers self.new.peers }
+        ensures heard { Hears W.Stream.has_given W.Stream.has_got (A.awaited cache.now) result self.old.links.peers self.new.links.peers }
         ensures unbegun { EndsUnbegun (A.holds cache.now) result }
     {
         'turns: for _ in 0..u64::MAX {
-            let Some(link) = self.agenda.turns.next() else {
+            let Some(link) = self.links.agenda.turns.first() else {
                 return Ok(None);
             };
-            if let Some(happened) = self.turn(link, cache, limits)? {
+            if let Some(happened) = self.turn(link, cache, patience)? {
                 return Ok(Some(happened));
             }
         }
@@ -104,20 +111,21 @@ impl<W: World> Traffic<W> {
         &mut self,
         link: Receiver,
         cache: &A,
-        limits: Limits,
+        patience: Patience,
     ) -> Result<Option<Happened>, AllocError>
-        ensures heard { Hears W.Stream.has_given W.Stream.has_got (A.awaited cache.now) result self.old.peers self.new.peers }
+        requires turn { IsFirstTurn (Some link) self.old.links.agenda.turns }
+        ensures heard { Hears W.Stream.has_given W.Stream.has_got (A.awaited cache.now) result self.old.links.peers self.new.links.peers }
         ensures unbegun { EndsUnbegun (A.holds cache.now) result }
     {
         match link {
             Receiver::Client(number) => {
                 let awaited = cache.awaits(number);
                 let begun = cache.held(Receiver::Client(number)) > 0;
-                let heard = self.client_turn(number, awaited, begun, limits.patience)?;
+                let heard = self.client_turn(number, awaited, begun, patience)?;
                 Ok(happened(Receiver::Client(number), heard))
             }
             Receiver::Origin(forward) => {
-                let heard = self.origin_turn(forward, limits)?;
+                let heard = self.origin_turn(forward)?;
                 self.troubles.count_noted(cache);
                 Ok(happened(Receiver::Origin(forward), heard))
             }
@@ -133,31 +141,33 @@ impl<W: World> Traffic<W> {
         begun: bool,
         patience: Patience,
     ) -> Result<Heard, AllocError>
-        ensures heard { Hears W.Stream.has_given W.Stream.has_got (IsAnswerOf number awaited) (told (Client number) result) self.old.peers self.new.peers }
-        ensures reason { (hearing : Hearing) × HasGrounds self.old.told.course self.old.giving_way patience self.old.peers number begun hearing
-            × (hearing.awaited ≡ awaited) × (hearing.tick ≡ self.old.told.tick)
-            × IsHeardFor hearing (is_cut_at number self.old.peers.clients.links) (FailsAt W.Stream.has_failed number self.old.peers self.new.peers) result }
-        ensures at_once { is_open_at number self.old.peers.clients.links ≡ true → IsToldAtOnce (is_cut_at number self.old.peers.clients.links)
-            (is_over_in_any_case self.old.told.course self.old.peers number awaited self.old.told.tick patience) result }
+        requires turn { IsFirstTurn (Some (Client number)) self.old.links.agenda.turns }
+        ensures heard { Hears W.Stream.has_given W.Stream.has_got (IsAnswerOf number awaited) (told (Client number) result) self.old.links.peers self.new.links.peers }
+        ensures reason { (hearing : Hearing) × HasGrounds self.old.told.course self.old.giving_way patience self.old.links.peers number begun hearing
+            × (hearing.awaited ≡ awaited) × (hearing.tick ≡ self.old.links.time.tick)
+            × IsHeardFor hearing (is_cut_at number self.old.links.peers.clients.links) (FailsAt W.Stream.has_failed number self.old.links.peers self.new.links.peers) result }
+        ensures at_once { is_open_at number self.old.links.peers.clients.links ≡ true → IsToldAtOnce (is_cut_at number self.old.links.peers.clients.links)
+            (is_over_in_any_case self.old.told.course self.old.links.peers number awaited self.old.links.time.tick patience) result }
         // Where its time isn't over, nothing that is owed to it is lost, unless memory is refused.
-        ensures tail { is_over_for self.old.told.course self.old.peers number awaited self.old.told.tick patience ≡ false
-            → IsErr result ⊎ KeepsTail W.Stream.has_failed (known_at number self.old.peers.clients.links) (known_at number self.new.peers.clients.links) }
+        ensures tail { is_over_for self.old.told.course self.old.links.peers number awaited self.old.links.time.tick patience ≡ false
+            → IsErr result ⊎ KeepsTail W.Stream.has_failed (known_at number self.old.links.peers.clients.links) (known_at number self.new.links.peers.clients.links) }
     {
         let hearing = self.hearing_of(number, awaited, begun, patience);
-        self.peers.unqueue(Receiver::Client(number));
         if self.is_closed(number) {
-            self.drop_rest_of_client(number, hearing.late);
+            self.links
+                .drop_rest_of_client(number, self.buffer.as_mut_slice(), hearing.late);
             return Ok(Heard::Nothing);
         }
-        self.hear_client(number, hearing)
+        self.links
+            .hear_client(number, self.buffer.as_mut_slice(), hearing)
     }
 
     /// What decides how a client is heard in its turn.
     fn hearing_of(&self, number: u64, awaited: bool, begun: bool, patience: Patience) -> Hearing
-        ensures grounds { HasGrounds self.now.told.course self.now.giving_way patience self.now.peers number begun result }
+        ensures grounds { HasGrounds self.now.told.course self.now.giving_way patience self.now.links.peers number begun result }
         ensures awaited { result.awaited ≡ awaited }
-        ensures tick { result.tick ≡ self.now.told.tick }
-        ensures sure { is_over_in_any_case self.now.told.course self.now.peers number awaited self.now.told.tick patience ≡ true → result.late ≡ true }
+        ensures tick { result.tick ≡ self.now.links.time.tick }
+        ensures sure { is_over_in_any_case self.now.told.course self.now.links.peers number awaited self.now.links.time.tick patience ≡ true → result.late ≡ true }
     {
         let late = self.is_over_for(number, awaited, patience);
         let stops = self.is_stopped(number, begun);
@@ -167,13 +177,13 @@ impl<W: World> Traffic<W> {
             stops,
             gives_way,
             late,
-            tick: self.told.tick,
+            tick: self.links.time.tick,
         }
     }
 
     /// Whether a stop ends a client: one that is idle, and of whose next request nothing has come.
     fn is_stopped(&self, number: u64, begun: bool) -> bool
-        ensures idle { result ≡ true → (ends_idle self.now.told.course && is_idle self.now.peers number) ≡ true }
+        ensures idle { result ≡ true → (ends_idle self.now.told.course && is_idle self.now.links.peers number) ≡ true }
         ensures begun { begun ≡ true → result ≡ false }
     {
         self.told.course.ends_idle() && !begun && self.is_silent(number)
@@ -181,7 +191,7 @@ impl<W: World> Traffic<W> {
 
     /// Whether a client was asked to give way, is idle still, and nothing of its next request has come.
     fn gives_way(&self, number: u64, begun: bool) -> bool
-        ensures asked { result ≡ true → (self.now.giving_way ≡ Some number) × (is_idle self.now.peers number ≡ true) }
+        ensures asked { result ≡ true → (self.now.giving_way ≡ Some number) × (is_idle self.now.links.peers number ≡ true) }
         ensures begun { begun ≡ true → result ≡ false }
     {
         let Some(asked) = self.giving_way else {
@@ -195,9 +205,9 @@ impl<W: World> Traffic<W> {
 
     /// Whether a client is idle, and no octets of it have come.
     fn is_silent(&self, number: u64) -> bool
-        ensures { result ≡ true → is_idle self.now.peers number ≡ true }
+        ensures { result ≡ true → is_idle self.now.links.peers number ≡ true }
     {
-        let Some(client) = self.peers.clients.get(number) else {
+        let Some(client) = self.links.peers.clients.get(number) else {
             return false;
         };
         match client.pace() {
@@ -210,20 +220,25 @@ impl<W: World> Traffic<W> {
     /// Whether there is no more time for a client: behind a stop, or, where no request of it awaits its reply, by how it is
     /// getting on. Of one that was idle for too long octets may have come already: these are read.
     fn is_over_for(&self, number: u64, awaited: bool, patience: Patience) -> bool
-        ensures only { result ≡ true → is_over_for self.now.told.course self.now.peers number awaited self.now.told.tick patience ≡ true }
-        ensures always { is_over_in_any_case self.now.told.course self.now.peers number awaited self.now.told.tick patience ≡ true → result ≡ true }
+        ensures only { result ≡ true → is_over_for self.now.told.course self.now.links.peers number awaited self.now.links.time.tick patience ≡ true }
+        ensures always { is_over_in_any_case self.now.told.course self.now.links.peers number awaited self.now.links.time.tick patience ≡ true → result ≡ true }
     {
         if self.told.course.is_late() {
             return true;
         }
-        !awaited && self.peers.is_overdue(number, self.told.tick, patience) && !self.is_back(number)
+        !awaited
+            && self
+                .links
+                .peers
+                .is_overdue(number, self.links.time.tick, patience)
+            && !self.is_back(number)
     }
 
     /// Whether a client was idle, and octets of it have come.
     fn is_back(&self, number: u64) -> bool
-        ensures { result ≡ true → is_idle self.now.peers number ≡ true }
+        ensures { result ≡ true → is_idle self.now.links.peers number ≡ true }
     {
-        let Some(client) = self.peers.clients.get(number) else {
+        let Some(client) = self.links.peers.clients.get(number) else {
             return false;
         };
         match client.pace() {
@@ -235,145 +250,57 @@ impl<W: World> Traffic<W> {
 
     /// Whether a client is there whose connection the cache has closed.
     pub(crate) fn is_closed(&self, number: u64) -> bool
-        ensures { result ≡ is_there_and (get nat_cmp self.now.peers.clients.links number) (λ client. client.closed) }
+        ensures { result ≡ is_there_and (get nat_cmp self.now.links.peers.clients.links number) (λ client. client.closed) }
     {
-        match self.peers.clients.get(number) {
+        match self.links.peers.clients.get(number) {
             Some(client) => client.is_closed(),
             None => false,
         }
     }
 
-    /// What is heard of a client.
-    fn hear_client(&mut self, number: u64, hearing: Hearing) -> Result<Heard, AllocError>
-        ensures heard { Hears W.Stream.has_given W.Stream.has_got (IsAnswerOf number hearing.awaited) (told (Client number) result) self.old.peers self.new.peers }
-        ensures reason { IsHeardFor hearing (is_cut_at number self.old.peers.clients.links) (FailsAt W.Stream.has_failed number self.old.peers self.new.peers) result }
-        ensures at_once { is_open_at number self.old.peers.clients.links ≡ true → IsToldAtOnce (is_cut_at number self.old.peers.clients.links) hearing.late result }
-        ensures fails { ClientFailsOnly W.Stream.has_failed ((hearing.late ≡ true) ⊎ IsErr result) (known_at number self.old.peers.clients.links) (known_at number self.new.peers.clients.links) }
+    /// What is heard in the turn of a forward, or of its link that lingers. Behind a link that has failed before it was known to
+    /// work, another one is tried.
+    fn origin_turn(&mut self, forward: u64) -> Result<Heard, AllocError>
+        requires turn { IsFirstTurn (Some (Origin forward)) self.old.links.agenda.turns }
+        ensures heard { Hears W.Stream.has_given W.Stream.has_got NoAnswer (told (Origin forward) result) self.old.links.peers self.new.links.peers }
     {
-        let heard = self
-            .peers
-            .hear_client(number, self.buffer.as_mut_slice(), hearing);
-        self.go_on(Receiver::Client(number), &heard);
-        heard
-    }
-
-    /// A link is to be heard again, where more may come behind what was heard. Where memory was refused for what came, the
-    /// link has failed, which is to be heard.
-    fn go_on(&mut self, link: Receiver, heard: &Result<Heard, AllocError>)
-        ensures kept { KeepsPeers W.Stream.has_given W.Stream.has_got self.old.peers self.new.peers }
-        ensures known { KeepsKnown self.old.peers.clients.links self.new.peers.clients.links }
-    {
-        let goes_on = match heard {
-            Ok(Heard::Nothing) => false,
-            Ok(_) => self.peers.is_readable(link),
-            Err(AllocError) => true,
-        };
-        if goes_on {
-            self.give_turn(link);
-        }
-    }
-
-    /// Drops what a client whose connection is closed still sends, and then its link, once nothing more comes and all that
-    /// was owed to it was written or is lost. Where its time is over, that is lost.
-    fn drop_rest_of_client(&mut self, number: u64, late: bool)
-        ensures kept { KeepsPeers W.Stream.has_given W.Stream.has_got self.old.peers self.new.peers }
-        ensures tail { late ≡ false → KeepsTail W.Stream.has_failed (known_at number self.old.peers.clients.links) (known_at number self.new.peers.clients.links) }
-    {
-        self.lose_late(number, late);
-        if self.peers.discard(number, self.buffer.as_mut_slice()) {
-            self.let_go(number);
-        } else if self.peers.is_readable(Receiver::Client(number)) {
-            self.give_turn(Receiver::Client(number));
-        }
-    }
-
-    /// Where a client's time is over, what is owed to it is lost.
-    fn lose_late(&mut self, number: u64, late: bool)
-        ensures kept { KeepsPeers W.Stream.has_given W.Stream.has_got self.old.peers self.new.peers }
-        ensures only { late ≡ false → self.new.peers ≡ self.old.peers }
-    {
-        if late {
-            self.peers.lose_client(number);
-        }
-    }
-
-    /// Drops a client's link, where the cache has closed the connection, and all that was owed was written, or is lost.
-    pub(crate) fn let_go(&mut self, number: u64)
-        ensures kept { KeepsPeers W.Stream.has_given W.Stream.has_got self.old.peers self.new.peers }
-        ensures goes { LetsGo (known_at number self.old.peers.clients.links) (known_at number self.new.peers.clients.links) }
-    {
-        if self.peers.let_go(number) {
-            self.agenda.forget_client(number);
-            // The system may have a place for a client again.
-            self.listening.retry();
-        }
-    }
-
-    /// What is heard in the turn of a forward. Behind a link that has failed before it was known to work, another one is
-    /// tried.
-    fn origin_turn(&mut self, forward: u64, limits: Limits) -> Result<Heard, AllocError>
-        ensures heard { Hears W.Stream.has_given W.Stream.has_got NoAnswer (told (Origin forward) result) self.old.peers self.new.peers }
-    {
-        if self.peers.lingering.has(forward) {
-            self.drop_rest_of_origin(forward);
+        if self.links.peers.lingering.has(forward) {
+            self.links
+                .drop_rest_of_origin(forward, self.buffer.as_mut_slice());
             return Ok(Heard::Nothing);
         }
-        self.peers.unqueue(Receiver::Origin(forward));
-        if self.peers.retry(forward) {
-            self.connect(forward, limits);
+        if self.links.peers.can_retry(forward) {
+            self.retry(forward);
             return Ok(Heard::Nothing);
         }
         self.hear_origin(forward)
     }
 
-    /// What is heard of a forward. One that has failed needs its place no more.
-    fn hear_origin(&mut self, forward: u64) -> Result<Heard, AllocError>
-        ensures heard { Hears W.Stream.has_given W.Stream.has_got NoAnswer (told (Origin forward) result) self.old.peers self.new.peers }
-        ensures reason { IsLossOf (get nat_cmp self.old.peers.forwards.links forward) result }
+    /// Another link is tried for a forward.
+    fn retry(&mut self, forward: u64)
+        requires turn { IsFirstTurn (Some (Origin forward)) self.old.links.agenda.turns }
+        requires may { can_retry forward self.old.links.peers ≡ true }
+        requires apart { is_lingering forward self.old.links.peers.lingering ≡ false }
+        ensures kept { KeepsPeers W.Stream.has_given W.Stream.has_got self.old.links.peers self.new.links.peers }
     {
-        let was_linked = self.peers.is_linked(forward);
-        let heard = self
-            .peers
-            .hear_origin(forward, self.buffer.as_mut_slice(), self.told.tick);
-        self.go_on(Receiver::Origin(forward), &heard);
+        let attempt = self.attempts(forward);
+        if !self.links.retry(forward, &mut self.world, attempt) {
+            self.note_unreached(forward);
+        }
+    }
+
+    /// What is heard of a forward.
+    fn hear_origin(&mut self, forward: u64) -> Result<Heard, AllocError>
+        requires turn { IsFirstTurn (Some (Origin forward)) self.old.links.agenda.turns }
+        requires apart { is_lingering forward self.old.links.peers.lingering ≡ false }
+        ensures heard { Hears W.Stream.has_given W.Stream.has_got NoAnswer (told (Origin forward) result) self.old.links.peers self.new.links.peers }
+        ensures reason { IsLossOf (get nat_cmp self.old.links.peers.forwards.links forward) result }
+    {
+        let was_linked = self.links.peers.is_linked(forward);
+        let heard = self.links.hear_origin(forward, self.buffer.as_mut_slice());
         self.troubles
             .note_break(forward, was_linked & is_loss(&heard));
-        if !self.peers.forwards.has(forward) {
-            self.free_place(forward);
-        }
         heard
-    }
-
-    /// Drops what comes on a link to the origin that lingers, and then the link, once nothing more does.
-    fn drop_rest_of_origin(&mut self, forward: u64)
-        ensures kept { KeepsPeers W.Stream.has_given W.Stream.has_got self.old.peers self.new.peers }
-    {
-        match self
-            .peers
-            .discard_lingering(forward, self.buffer.as_mut_slice())
-        {
-            Remainder::More => self.give_lingering_turn(forward),
-            Remainder::Later => {}
-            Remainder::Over => self.drop_lingering(forward),
-        }
-    }
-
-    /// A link to the origin that lingers is to be heard.
-    pub(crate) fn give_lingering_turn(&mut self, forward: u64)
-        ensures kept { KeepsPeers W.Stream.has_given W.Stream.has_got self.old.peers self.new.peers }
-    {
-        if self.peers.queue_lingering(forward) {
-            self.agenda.give_turn(Receiver::Origin(forward));
-        }
-    }
-
-    /// Drops a link to the origin, if it lingers.
-    pub(crate) fn drop_lingering(&mut self, forward: u64)
-        ensures kept { KeepsPeers W.Stream.has_given W.Stream.has_got self.old.peers self.new.peers }
-    {
-        if self.peers.drop_lingering(forward) {
-            self.free_place(forward);
-        }
     }
 }
 

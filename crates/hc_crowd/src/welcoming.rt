@@ -4,11 +4,11 @@ ghost use Rattle.std.specs.Prelude.{List, [], ℕ};
 
 use crate::limits::Limits;
 use crate::traffic::Traffic;
-use crate::world::World;
+use hc_attended::World;
 use hc_events::Happening;
 use hc_flow::Presence;
 use hc_link_traits::Happened;
-use hc_order::{Reason, Receiver};
+use hc_order::Reason;
 use std::alloc::AllocError;
 
 impl<W: World> Traffic<W> {
@@ -22,10 +22,10 @@ impl<W: World> Traffic<W> {
 
     /// The next guest of whom octets have come is made a client. Those that knock for nothing wait on, or go.
     pub(crate) fn welcome(&mut self, limits: Limits) -> Result<Option<Happened>, AllocError>
-        ensures heard { HearsWithin W.Stream.has_given W.Stream.has_got limits.connections NoAnswer result self.old.peers self.new.peers }
+        ensures heard { HearsWithin W.Stream.has_given W.Stream.has_got limits.connections NoAnswer result self.old.links.peers self.new.links.peers }
     {
         'knocks: for _ in 0..u64::MAX {
-            let Some(guest) = self.peers.next_knocking() else {
+            let Some(guest) = self.links.next_knocking() else {
                 return Ok(None);
             };
             if let Some(happened) = self.answer(guest, limits)? {
@@ -38,16 +38,16 @@ impl<W: World> Traffic<W> {
     /// A guest that knocks is made a client where octets of it have come. Without any it goes where it has left, and behind a
     /// stop.
     fn answer(&mut self, guest: u64, limits: Limits) -> Result<Option<Happened>, AllocError>
-        ensures heard { HearsWithin W.Stream.has_given W.Stream.has_got limits.connections NoAnswer result self.old.peers self.new.peers }
+        ensures heard { HearsWithin W.Stream.has_given W.Stream.has_got limits.connections NoAnswer result self.old.links.peers self.new.links.peers }
     {
-        match self.peers.guests.peek(guest) {
+        match self.links.peers.guests.peek(guest) {
             Presence::Octets => self.admit(guest, limits),
             Presence::Later => {
                 self.keep_waiting(guest);
                 Ok(None)
             }
             Presence::Over => {
-                self.let_guest_go(guest);
+                self.links.let_guest_go(guest);
                 Ok(None)
             }
         }
@@ -55,21 +55,20 @@ impl<W: World> Traffic<W> {
 
     /// A guest of whom no octet has come waits on. Behind a stop it goes, once clients that are idle do.
     fn keep_waiting(&mut self, guest: u64)
-        ensures kept { KeepsPeers W.Stream.has_given W.Stream.has_got self.old.peers self.new.peers }
+        ensures kept { KeepsPeers W.Stream.has_given W.Stream.has_got self.old.links.peers self.new.links.peers }
     {
         if self.told.course.ends_idle() {
-            self.let_guest_go(guest);
+            self.links.let_guest_go(guest);
         }
     }
 
     /// A guest is made a client. Where the system refuses that, it goes.
     fn admit(&mut self, guest: u64, limits: Limits) -> Result<Option<Happened>, AllocError>
-        ensures heard { HearsWithin W.Stream.has_given W.Stream.has_got limits.connections NoAnswer result self.old.peers self.new.peers }
+        ensures heard { HearsWithin W.Stream.has_given W.Stream.has_got limits.connections NoAnswer result self.old.links.peers self.new.links.peers }
     {
-        let Some(stream) = self.peers.take_guest(guest) else {
+        let Some(stream) = self.links.take_guest(guest) else {
             return Ok(None);
         };
-        self.forget_guest(guest);
         self.make_client(stream, limits)
     }
 
@@ -80,19 +79,19 @@ impl<W: World> Traffic<W> {
         limits: Limits,
     ) -> Result<Option<Happened>, AllocError>
         ensures tells { W.Stream.has_given stream [] → W.Stream.has_got stream [] → (origin : ℕ) (log : List Move)
-            → ArePeers W.Stream.has_given W.Stream.has_got (AtMost limits.connections origin) self.old.peers log
-            → TellsIfOk (ArePeers W.Stream.has_given W.Stream.has_got (AtMost limits.connections origin) self.new.peers) result log }
-        ensures may { (bounds : Bounds) (log : List Move) → ArePeers W.Stream.has_given W.Stream.has_got bounds self.old.peers log
+            → ArePeers W.Stream.has_given W.Stream.has_got (AtMost limits.connections origin) self.old.links.peers log
+            → TellsIfOk (ArePeers W.Stream.has_given W.Stream.has_got (AtMost limits.connections origin) self.new.links.peers) result log }
+        ensures may { (bounds : Bounds) (log : List Move) → ArePeers W.Stream.has_given W.Stream.has_got bounds self.old.links.peers log
             → MayBeHeard limits.connections result log }
         ensures in_turn { HeardInTurn NoAnswer result }
-        ensures shown { W.Stream.has_got stream [] → (log : List Move) → ShowNoMore W.Stream.has_got self.old.peers log
-            → ShowNoMore W.Stream.has_got self.new.peers log }
+        ensures shown { W.Stream.has_got stream [] → (log : List Move) → ShowNoMore W.Stream.has_got self.old.links.peers log
+            → ShowNoMore W.Stream.has_got self.new.links.peers log }
     {
         let mut stream = stream;
-        if !self.peers.may_open(limits.connections) {
+        if !self.links.peers.may_open(limits.connections) {
             return Ok(None);
         }
-        let Some(number) = self.peers.next_number() else {
+        let Some(number) = self.links.peers.next_number() else {
             return Ok(None);
         };
         if !self.world.rename(&mut stream, number) {
@@ -108,88 +107,47 @@ impl<W: World> Traffic<W> {
         stream: W::Stream,
         limits: Limits,
     ) -> Result<Option<Happened>, AllocError>
-        requires next { IsNext self.old.peers number }
-        requires room { MayOpen self.old.peers limits.connections }
+        requires next { IsNext self.old.links.peers number }
+        requires room { MayOpen self.old.links.peers limits.connections }
         ensures tells { W.Stream.has_given stream [] → W.Stream.has_got stream [] → (origin : ℕ) (log : List Move)
-            → ArePeers W.Stream.has_given W.Stream.has_got (AtMost limits.connections origin) self.old.peers log
-            → TellsIfOk (ArePeers W.Stream.has_given W.Stream.has_got (AtMost limits.connections origin) self.new.peers) result log }
-        ensures may { (bounds : Bounds) (log : List Move) → ArePeers W.Stream.has_given W.Stream.has_got bounds self.old.peers log
+            → ArePeers W.Stream.has_given W.Stream.has_got (AtMost limits.connections origin) self.old.links.peers log
+            → TellsIfOk (ArePeers W.Stream.has_given W.Stream.has_got (AtMost limits.connections origin) self.new.links.peers) result log }
+        ensures may { (bounds : Bounds) (log : List Move) → ArePeers W.Stream.has_given W.Stream.has_got bounds self.old.links.peers log
             → MayBeHeard limits.connections result log }
         ensures in_turn { HeardInTurn NoAnswer result }
-        ensures shown { W.Stream.has_got stream [] → (log : List Move) → ShowNoMore W.Stream.has_got self.old.peers log
-            → ShowNoMore W.Stream.has_got self.new.peers log }
+        ensures shown { W.Stream.has_got stream [] → (log : List Move) → ShowNoMore W.Stream.has_got self.old.links.peers log
+            → ShowNoMore W.Stream.has_got self.new.links.peers log }
     {
-        self.peers
-            .open(number, stream, limits.connections, self.told.tick)?;
-        self.agenda.give_turn_now(Receiver::Client(number));
-        self.watch_client(number, limits.patience);
+        self.links.open(number, stream, limits.connections)?;
         Ok(Some(Happened {
             of: Happening::ClientOpened(number),
             reason: Reason::Peer,
         }))
     }
 
-    /// The time of a guest is over: it goes, unless octets of it have come.
-    pub(crate) fn end_guest(&mut self, guest: u64)
-        ensures kept { KeepsPeers W.Stream.has_given W.Stream.has_got self.old.peers self.new.peers }
-    {
-        match self.peers.guests.peek(guest) {
-            Presence::Octets => self.knock(guest),
-            Presence::Later => self.let_guest_go(guest),
-            Presence::Over => self.let_guest_go(guest),
-        }
-    }
-
-    /// A guest's link is dropped.
-    fn let_guest_go(&mut self, guest: u64)
-        ensures kept { KeepsPeers W.Stream.has_given W.Stream.has_got self.old.peers self.new.peers }
-    {
-        if self.peers.let_guest_go(guest) {
-            self.forget_guest(guest);
-        }
-    }
-
-    /// A guest has gone, or is one no more.
-    pub(crate) fn forget_guest(&mut self, guest: u64)
-        ensures kept { KeepsPeers W.Stream.has_given W.Stream.has_got self.old.peers self.new.peers }
-    {
-        self.agenda.forget_guest(guest);
-        // The system may have a place for a client again.
-        self.listening.retry();
-    }
-
-    /// A guest knocks, if it is there.
-    pub(crate) fn knock(&mut self, guest: u64)
-        ensures kept { KeepsPeers W.Stream.has_given W.Stream.has_got self.old.peers self.new.peers }
-    {
-        if self.peers.knock(guest).is_err() {
-            self.agenda.note_refusal();
-        }
-    }
-
     /// All guests knock.
     pub(crate) fn let_all_knock(&mut self)
-        ensures kept { KeepsPeers W.Stream.has_given W.Stream.has_got self.old.peers self.new.peers }
+        ensures kept { KeepsPeers W.Stream.has_given W.Stream.has_got self.old.links.peers self.new.links.peers }
     {
         let mut least = 0;
-        'guests: for _ in 0..self.peers.guests.len() {
-            let Some(guest) = self.peers.guests.first_from(least) else {
+        'guests: for _ in 0..self.links.peers.guests.len() {
+            let Some(guest) = self.links.peers.guests.first_from(least) else {
                 return;
             };
-            self.knock(guest);
+            self.links.knock(guest);
             least = guest.saturating_add(1);
         }
     }
 
     /// All guests go.
     pub(crate) fn let_all_guests_go(&mut self)
-        ensures kept { KeepsPeers W.Stream.has_given W.Stream.has_got self.old.peers self.new.peers }
+        ensures kept { KeepsPeers W.Stream.has_given W.Stream.has_got self.old.links.peers self.new.links.peers }
     {
-        'guests: for _ in 0..self.peers.guests.len() {
-            let Some(guest) = self.peers.guests.first_from(0) else {
+        'guests: for _ in 0..self.links.peers.guests.len() {
+            let Some(guest) = self.links.peers.guests.first_from(0) else {
                 return;
             };
-            self.let_guest_go(guest);
+            self.links.let_guest_go(guest);
         }
     }
 }

@@ -78,6 +78,8 @@ impl<L: Batches> Links for Noted<L> {
 impl<L: Batches> Batches for Noted<L> {
     ghost over = { λ noted. L.over noted.links };
 
+    ghost settled = { λ noted. L.settled noted.links };
+
     fn deliver<A: Awaiting>(&mut self, cache: &A) -> Result<(), AllocError> {
         self.links.deliver(cache)
     }

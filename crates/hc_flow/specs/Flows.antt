@@ -1,10 +1,11 @@
 -- What has passed at a flow.
-use Rattle.std.specs.Prelude.{◌≡◌, ◌⊎◌, ℕ, ◌==◌, Bool, true, false, List, ◌++◌, length, not, Option, Some, None, Result, Ok, Err}
+use Rattle.std.specs.Prelude.{◌≡◌, ◌⊎◌, ℕ, ◌==◌, ◌&&◌, ◌||◌, Bool, true, false, List, [], ◌++◌, length, not, if◌then◌else◌, Option, Some, None, Result, Ok, Err}
 use Rattle.std.specs.declared.alloc.AllocError.{AllocError}
 use Rattle.hc_flow.specs.Passing.{Gave, Owes}
 use Rattle.hc_flow.specs.declared.flow.Flow.{Flow}
 use Rattle.hc_flow.specs.declared.outbox.Emptying.{Emptying}
-use Rattle.hc_flow.specs.declared.outbox.Emptying.TheVariants.{Emptied}
+use Rattle.hc_flow.specs.declared.outbox.Emptying.TheVariants as emptying
+use Rattle.hc_flow.specs.declared.readiness.Readiness.{Readiness}
 use Rattle.hc_flow.specs.declared.stream.Presence.{Presence}
 use Rattle.hc_flow.specs.declared.stream.Presence.TheVariants.{Octets, Later, Over}
 
@@ -46,6 +47,23 @@ is_owed flow = not (length flow.outbox == 0)
 
 -- nothing waits to be written where all of it was, nor without a link
 abbrev pub TellsOwed : Option Emptying → Bool → Type 0
-TellsOwed (Some Emptied) owed = owed ≡ false
+TellsOwed (Some emptying.Emptied) owed = owed ≡ false
 TellsOwed (Some other) owed = Unit {0}
 TellsOwed None owed = owed ≡ false
+
+-- whether octets wait to be written there, and may be taken now
+abbrev pub may_be_written : {S : Type 0} → Flow S → Bool
+may_be_written flow = not flow.failed && (is_owed flow && flow.writable)
+
+-- what is told of a link is added to what is known; where it has failed, what waits is lost
+pub record FlowLearns {S : Type 0} (readiness : Readiness) (before after : Flow S) : Type 0 where
+  pub failed : after.failed ≡ (before.failed || readiness.failed)
+  pub outbox : after.outbox ≡ (if readiness.failed then [] else before.outbox)
+  pub readable : after.readable ≡ (before.readable || (readiness.readable || readiness.ended))
+  pub writable : after.writable ≡ (before.writable || readiness.writable)
+
+-- what a write leaves: nothing waits, or something does that isn't taken now, or the link has failed
+abbrev pub LeavesFlow : {S : Type 0} → Emptying → Flow S → Type 0
+LeavesFlow emptying.Emptied flow = (is_owed flow ≡ false) × (flow.failed ≡ false)
+LeavesFlow emptying.Later flow = (is_owed flow ≡ true) × (flow.writable ≡ false) × (flow.failed ≡ false)
+LeavesFlow emptying.Failed flow = flow.failed ≡ true

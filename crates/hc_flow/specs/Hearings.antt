@@ -1,6 +1,7 @@
 -- What is heard at a link, and when.
 use Rattle.std.specs.Prelude.{◌≡◌, ◌||◌, ◌⊎◌, ℕ, Bool, true, false, List, ◌++◌, Result, Ok, Err}
 use Rattle.std.specs.declared.alloc.AllocError.{AllocError}
+use Rattle.hc_flow.specs.Flows.{is_owed}
 use Rattle.hc_flow.specs.declared.flow.Flow.{Flow}
 use Rattle.hc_flow.specs.declared.readiness.Readiness.{Readiness}
 use Rattle.hc_order.specs.declared.occurrence.Reason.TheVariants.{Peer, Stop, Reset, Displaced}
@@ -100,3 +101,28 @@ IsRealEnd has_ended other = Unit {0}
 -- a link has failed only where that was known before, where its stream has failed by now, or on that ground
 abbrev pub FailsOnly : {S : Type 0} → (S → Type 0) → (ground : Type 0) → Flow S → Flow S → Type 0
 FailsOnly has_failed ground before after = after.failed ≡ true → HasFailed has_failed before after ⊎ ground
+
+-- ---- what it leaves
+
+-- whether a link has failed behind what was heard there
+abbrev pub fails_by : Result Heard AllocError → Bool
+fails_by (Ok (Octets octets)) = false
+fails_by (Ok (End reason)) = false
+fails_by (Ok (Lost reason)) = true
+fails_by (Ok Nothing) = false
+fails_by (Err refused) = true
+
+-- what a read leaves: where nothing was heard, nothing more may be read now; nothing more waits to be written than before
+pub record FlowIsHeard {S : Type 0} (result : Result Heard AllocError) (before after : Flow S) : Type 0 where
+  pub failed : after.failed ≡ fails_by result
+  pub quiet : result ≡ Ok Nothing → after.readable ≡ false
+  pub owed : is_owed after ≡ true → is_owed before ≡ true
+  pub writable : after.writable ≡ before.writable
+
+-- whether a link is to be heard again behind what was heard, by whether a read may bring more: where memory was refused for what came, it has failed, which is to be heard
+abbrev pub goes_on : Result Heard AllocError → (readable : Bool) → Bool
+goes_on (Ok (Octets octets)) readable = readable
+goes_on (Ok (End reason)) readable = readable
+goes_on (Ok (Lost reason)) readable = readable
+goes_on (Ok Nothing) readable = false
+goes_on (Err refused) readable = true

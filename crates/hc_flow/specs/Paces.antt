@@ -38,7 +38,7 @@ GetsOn tick (Asking since octets) later = ((more : ℕ) × (later ≡ Asking sin
 -- so many octets of a request came: the first ones begin it
 abbrev pub asking : (count tick : ℕ) → Pace → Pace
 asking count tick (Idle since) = Asking tick count
-asking count tick (Asking since octets) = Asking since (min (octets + count) (2 ^ 64 - 1))
+asking count tick (Asking since octets) = Asking since (octets + min count (2 ^ 64 - 1 - octets))
 asking count tick (Taking since) = Asking tick count
 
 -- octets are owed from then on, or since before

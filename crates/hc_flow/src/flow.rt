@@ -46,7 +46,7 @@ impl<S: Stream + Drop> Drop for Flow<S> {
 
 impl<S: Stream> Flow<S> {
     ghost use Rattle.hc_flow.specs.Emptyings.{LeavesWaiting, is_ended_behind, is_failed_emptying, is_writable_behind};
-    ghost use Rattle.hc_flow.specs.Flows.{FailsWithStream, FlowGave, FlowOwes, KeepsEnd, KeepsLink, OwesSent, ShowsOctets};
+    ghost use Rattle.hc_flow.specs.Flows.{FailsWithStream, FlowGave, FlowOwes, KeepsEnd, KeepsLink, OwesSent, ShowsOctets, is_owed, may_be_written};
     ghost use Rattle.hc_flow.specs.Passing.{Stays};
     ghost use Rattle.hc_flow.specs.Reads.{EndsRead, FitsBuffer, HearsArrival, KeepsWaiting, is_failed_read, is_readable_behind};
 
@@ -115,6 +115,13 @@ impl<S: Stream> Flow<S> {
         ensures { result ≡ not (length self.now.outbox == 0) }
     {
         !self.outbox.is_empty()
+    }
+
+    /// Whether octets wait to be written, and may be taken now. Once the link has failed none may.
+    pub fn may_be_written(&self) -> bool
+        ensures { result ≡ may_be_written self.now }
+    {
+        !self.failed && (self.is_owed() && self.writable)
     }
 
     /// How many octets wait to be written.
@@ -311,6 +318,7 @@ impl<S: Stream> Flow<S> {
         ensures half { KeepsEnd S.was_ended self.old self.new }
         ensures fails { FailsWithStream S.has_failed self.old self.new }
         ensures waits { KeepsWaiting result self.old.outbox self.new.outbox }
+        ensures owed { is_owed self.new ≡ true → is_owed self.old ≡ true }
         ensures readable { self.new.readable ≡ is_readable_behind result self.old.readable self.old.hung_up (length buffer.new) }
         ensures same { (self.new.writable ≡ self.old.writable) × (self.new.hung_up ≡ self.old.hung_up) × (self.new.ends ≡ self.old.ends)
             × (self.new.ended ≡ self.old.ended) }

@@ -1,9 +1,9 @@
 //! What is heard at a link.
 
-ghost use Rattle.std.specs.Prelude.{◌≡◌, ◌++◌, true, ℕ, List, IfOk, IsErr, OnOk};
-ghost use Rattle.hc_flow.specs.Flows.{FlowGave, FlowOwes};
+ghost use Rattle.std.specs.Prelude.{◌≡◌, ◌++◌, true, ℕ, List, IfOk, IsErr, OnErr, OnOk};
+ghost use Rattle.hc_flow.specs.Flows.{FlowGave, FlowOwes, is_owed};
 ghost use Rattle.hc_flow.specs.Passing.{Stays};
-ghost use Rattle.hc_flow.specs.Hearings.{FailsOnly, GivesHeard, HasFailed, IsEndOf, IsRead, has_octets, is_end, is_lost, wants_turn};
+ghost use Rattle.hc_flow.specs.Hearings.{FailsOnly, FlowIsHeard, GivesHeard, HasFailed, IsEndOf, IsRead, has_octets, is_end, is_lost, wants_turn};
 
 use crate::flow::Flow;
 use crate::readiness::Readiness;
@@ -75,6 +75,7 @@ pub fn hear_flow<S: Stream>(
     ensures reason { IsRead (HasFailed S.has_failed flow.old flow.new) result }
     ensures over { IsEndOf (S.has_ended flow.new.stream) result }
     ensures fails { FailsOnly S.has_failed (IsErr result) flow.old flow.new }
+    ensures leaves { FlowIsHeard result flow.old flow.new }
     ensures got { Stays (S.has_got flow.old.stream) (S.has_got flow.new.stream) }
 {
     match flow.read(buffer) {
@@ -96,6 +97,9 @@ fn heard_octets<S: Stream>(
         → GivesHeard (FlowGave S.has_given flow.new) result heard }
     ensures octets { IfOk result (λ heard. has_octets heard ≡ true) }
     ensures fails { OnOk result (flow.new.failed ≡ flow.old.failed) }
+    ensures lost { OnErr result (flow.new.failed ≡ true) }
+    ensures owed { is_owed flow.new ≡ true → is_owed flow.old ≡ true }
+    ensures writable { flow.new.writable ≡ flow.old.writable }
     ensures got { Stays (S.has_got flow.old.stream) (S.has_got flow.new.stream) }
 {
     match Octets::from_slice(alloc, octets) {

@@ -1,6 +1,6 @@
 //! Links that are served in batches.
 
-ghost use Rattle.std.specs.Prelude.{◌≡◌, ◌≤◌, true, List, ◌∷◌};
+ghost use Rattle.std.specs.Prelude.{◌≡◌, ◌≤◌, true, List, ◌∷◌, OnOk};
 ghost use Rattle.hc_transcript.specs.Limits.{greatest_moment};
 ghost use Rattle.hc_order.specs.declared.occurrence.Occurrence.{Occurrence};
 ghost use Rattle.hc_order.specs.Log.{Move};
@@ -17,15 +17,20 @@ pub trait Batches: Links {
     /// No further client is served, and no link is left.
     ghost over: { Self → Type 0 };
 
+    /// Nothing is left lying that could go on: so further things may be waited for.
+    ghost settled: { Self → Type 0 } = { λ _. Unit {0} };
+
     /// Writes what was sent, as far as links take it now, and may ask the cache what it awaits. It fails only where
     /// memory is refused.
     fn deliver<A: Awaiting>(&mut self, cache: &A) -> Result<(), AllocError>
         ensures tells { (log : List Move) → Self.tells self.old log → Self.tells self.new log }
         ensures shown { (log : List Move) → Self.tells self.old log → Self.shows self.new log }
-        ensures limits { KeepsLimits Self.most Self.bounds Self.may_tell self.old self.new };
+        ensures limits { KeepsLimits Self.most Self.bounds Self.may_tell self.old self.new }
+        ensures settled { OnOk result (settled self.new) };
 
     /// Waits until something is ready or due, and begins a new batch with that. It fails only where memory is refused.
     fn wait(&mut self) -> Result<(), AllocError>
+        requires settled { settled self.old }
         ensures tells { (log : List Move) → Self.tells self.old log → Self.tells self.new log }
         ensures links { KeepsLinks Self.shows Self.most Self.bounds Self.may_tell self.old self.new };
 

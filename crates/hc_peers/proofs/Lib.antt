@@ -1,6 +1,7 @@
 pub mod ClientLemmas
 pub mod ForwardLemmas
 pub mod GuestLemmas
+pub mod KnockLemmas
 pub mod KnownLemmas
 pub mod LentLemmas
 pub mod LinkLemmas

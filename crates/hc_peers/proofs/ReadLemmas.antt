@@ -11,7 +11,7 @@ use Rattle.hc_peers.specs.Clients.{IsClient}
 pub still_client : {S : Type 0} (has_given has_got : S → List ℕ → Type 0) (client : Client S) (flow : Flow S) (passage : Passage) → client.closed ≡ false
     → IsClient has_given has_got client passage
     → ((sent : List ℕ) → FlowOwes has_got client.flow sent → FlowOwes has_got flow sent) → ((heard : List ℕ) → FlowGave has_given client.flow heard → FlowGave has_given flow heard)
-    → IsClient has_given has_got (record { flow = flow; ended = client.ended; closed = client.closed; cut = client.cut; queued = client.queued; left = client.left; pace = client.pace }) passage
+    → IsClient has_given has_got (record { flow = flow; ended = client.ended; closed = client.closed; cut = client.cut; waits = client.waits; queued = client.queued; left = client.left; pace = client.pace }) passage
 still_client has_given has_got client flow passage here is owes gave = record {
   opened = is.opened;
   ended = is.ended;

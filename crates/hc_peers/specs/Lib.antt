@@ -1,9 +1,11 @@
+pub mod Behind
 pub mod Clients
 pub mod Forwards
 pub mod Guests
 pub mod Heard
 pub mod Hearings
 pub mod Keeping
+pub mod Knocks
 pub mod Known
 pub mod Leaving
 pub mod Lingering

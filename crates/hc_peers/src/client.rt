@@ -1,6 +1,6 @@
 //! One client's link.
 
-ghost use Rattle.std.specs.Prelude.{◌≡◌, ◌⊎◌, ◌&&◌, ◌||◌, not, Bool, true, false, [], length, Some, None, nat_lt, IsErr};
+ghost use Rattle.std.specs.Prelude.{◌≡◌, ◌⊎◌, ◌&&◌, ◌||◌, not, Bool, true, false, [], Some, None, nat_lt, IsErr};
 ghost use Rattle.hc_peers.specs.Leaving.{left_behind};
 
 use hc_flow::{Arrival, Emptying, Flow, Heard, Pace, Readiness, Stream, hear_flow, wants_turn};
@@ -33,6 +33,8 @@ pub struct Client<S: Stream> {
     closed: bool,
     /// Whether it was cut off, since so much was held.
     cut: bool,
+    /// Whether a request of it awaited its reply when it was heard last, and nothing was sent to it since.
+    waits: bool,
     /// Whether it stands among the turns.
     pub(crate) queued: bool,
     /// When the system first told that it has ended, or that its link has failed.
@@ -43,10 +45,10 @@ pub struct Client<S: Stream> {
 
 impl<S: Stream> Client<S> {
     ghost use Rattle.hc_order.specs.Passages.{Passage, closing, ending, opened_with};
-    ghost use Rattle.hc_flow.specs.Paces.{owing, written};
-    ghost use Rattle.hc_flow.specs.Hearings.{FailsOnly, HasFailed, IsHeardInTurn, IsHeardOpen, IsRealEnd, KeepsHeard, KeepsSent, ends_by, wants_turn};
+    ghost use Rattle.hc_flow.specs.Hearings.{FailsOnly, HasFailed, IsHeardInTurn, IsHeardOpen, IsRealEnd, KeepsHeard, KeepsSent, ends_by, goes_on, wants_turn};
     ghost use Rattle.hc_peers.specs.Hearings.{IsHeardFor, IsRead, IsToldAtOnce};
-    ghost use Rattle.hc_flow.specs.Flows.{TellsOwed, is_owed};
+    ghost use Rattle.hc_flow.specs.Flows.{TellsOwed, is_owed, may_be_written};
+    ghost use Rattle.hc_peers.specs.Behind.{ClientIsClosed, ClientIsDropped, ClientIsHeard, ClientIsLost, ClientIsSent, ClientIsWritten, ClientLearns, IsFreshClient, is_broken, is_client_heard, is_closing, may_be_read};
     ghost use Rattle.hc_peers.specs.Clients.{IsClient, may_go};
     ghost use Rattle.hc_peers.specs.Leaving.{has_left, left_behind};
     ghost use Rattle.hc_peers.specs.declared.client.Hearing.{Hearing};
@@ -56,16 +58,15 @@ impl<S: Stream> Client<S> {
     /// One who has just connected, and has a turn.
     pub(crate) fn new(alloc: Global, stream: S, tick: u64) -> Self
         ensures kept { S.has_given stream [] → S.has_got stream [] → IsClient S.has_given S.has_got result (opened_with []) }
-        ensures queued { result.queued ≡ true }
-        ensures stream { result.flow.stream ≡ stream }
-        ensures pace { result.pace ≡ Pace.Idle tick }
-        ensures state { (result.cut ≡ false) × (result.left ≡ None) }
+        ensures behind { IsFreshClient stream tick result }
+        ensures left { result.left ≡ None }
     {
         Client {
             flow: Flow::new(alloc, stream),
             ended: false,
             closed: false,
             cut: false,
+            waits: false,
             queued: true,
             left: None,
             pace: Pace::Idle(tick),
@@ -91,13 +92,10 @@ impl<S: Stream> Client<S> {
         ensures over { IsRealEnd (S.has_ended self.new.flow.stream) result }
         ensures at_once { self.old.ended ≡ false → self.old.closed ≡ false → IsToldAtOnce self.old.cut hearing.late result }
         ensures fails { FailsOnly S.has_failed ((hearing.late ≡ true) ⊎ IsErr result) self.old.flow self.new.flow }
-        ensures rest { self.new ≡ record self.old {
-          flow = self.new.flow;
-          ended = ends_by result self.old.ended;
-          pace = pace_behind result hearing.tick self.old.pace;
-        } }
+        ensures behind { ClientIsHeard hearing result self.old self.new }
         ensures got { Stays (S.has_got self.old.flow.stream) (S.has_got self.new.flow.stream) }
     {
+        self.waits = hearing.awaited;
         if self.ended {
             return Ok(Heard::Nothing);
         }
@@ -152,6 +150,8 @@ impl<S: Stream> Client<S> {
         ensures over { IsRealEnd (S.has_ended self.new.flow.stream) result }
         ensures reason { (hearing : Hearing) (cut : Bool) → IsRead hearing → IsHeardFor hearing cut (HasFailed S.has_failed self.old.flow self.new.flow) result }
         ensures fails { FailsOnly S.has_failed (IsErr result) self.old.flow self.new.flow }
+        ensures quiet { self.old.closed ≡ false → goes_on result self.new.flow.readable ≡ false → is_client_heard self.new ≡ false }
+        ensures written { self.old.flow.failed ≡ false → may_be_written self.new.flow ≡ true → may_be_written self.old.flow ≡ true }
         ensures rest { self.new ≡ record self.old { flow = self.new.flow; ended = ends_by result self.old.ended; pace = pace_behind result tick self.old.pace } }
         ensures got { Stays (S.has_got self.old.flow.stream) (S.has_got self.new.flow.stream) }
     {
@@ -170,10 +170,10 @@ impl<S: Stream> Client<S> {
     pub(crate) fn send(&mut self, text: &MessageText, tick: u64) -> Result<(), AllocError>
         ensures kept { (passage : Passage) → IsClient S.has_given S.has_got self.old passage
             → KeepsSent (IsClient S.has_given S.has_got self.new) result text.now passage }
-        ensures rest { self.new ≡ record self.old { flow = self.new.flow; pace = owing (is_owed self.new.flow) tick self.old.pace } }
-        ensures failed { self.new.flow.failed ≡ self.old.flow.failed }
+        ensures behind { ClientIsSent tick self.old self.new }
         ensures got { Stays (S.has_got self.old.flow.stream) (S.has_got self.new.flow.stream) }
     {
+        self.waits = false;
         let sent = self.flow.send(text);
         self.pace = self.pace.owing(self.flow.is_owed(), tick);
         sent
@@ -185,8 +185,7 @@ impl<S: Stream> Client<S> {
             → IsClient S.has_given S.has_got self.new (closing passage) }
         ensures was { result ≡ not self.old.closed }
         ensures ends { self.new.flow.ends ≡ true }
-        ensures rest { self.new ≡ record self.old { flow = self.new.flow; closed = true } }
-        ensures waits { (self.new.flow.failed ≡ self.old.flow.failed) × (self.new.flow.outbox ≡ self.old.flow.outbox) }
+        ensures behind { ClientIsClosed self.old self.new }
         ensures got { Stays (S.has_got self.old.flow.stream) (S.has_got self.new.flow.stream) }
     {
         let was_open = !self.closed;
@@ -200,7 +199,7 @@ impl<S: Stream> Client<S> {
         ensures kept { (passage : Passage) → IsClient S.has_given S.has_got self.old passage → IsClient S.has_given S.has_got self.new passage }
         ensures owed { TellsOwed (Some result) (is_owed self.new.flow) }
         ensures fails { FailsOnly S.has_failed ⊥ self.old.flow self.new.flow }
-        ensures rest { self.new ≡ record self.old { flow = self.new.flow; pace = written result (length self.old.flow.outbox) (length self.new.flow.outbox) tick self.old.pace } }
+        ensures behind { ClientIsWritten result tick self.old self.new }
     {
         let before = self.flow.held();
         let emptying = self.flow.write();
@@ -213,8 +212,7 @@ impl<S: Stream> Client<S> {
     pub(crate) fn learn(&mut self, readiness: Readiness, tick: u64) -> bool
         ensures kept { (passage : Passage) → IsClient S.has_given S.has_got self.old passage → IsClient S.has_given S.has_got self.new passage }
         ensures first { result ≡ (wants_turn readiness && not self.old.queued) }
-        ensures rest { self.new ≡ record self.old { flow = self.new.flow; queued = wants_turn readiness || self.old.queued; left = left_behind readiness tick self.old.left } }
-        ensures failed { self.new.flow.failed ≡ (self.old.flow.failed || readiness.failed) }
+        ensures behind { ClientLearns readiness tick self.old self.new }
         ensures got { Stays (S.has_got self.old.flow.stream) (S.has_got self.new.flow.stream) }
     {
         self.flow.learn(readiness);
@@ -241,8 +239,7 @@ impl<S: Stream> Client<S> {
     /// Its time is over: what is owed is lost.
     pub(crate) fn lose(&mut self)
         ensures kept { (passage : Passage) → IsClient S.has_given S.has_got self.old passage → IsClient S.has_given S.has_got self.new passage }
-        ensures lost { self.new.flow.failed ≡ true }
-        ensures rest { self.new ≡ record self.old { flow = self.new.flow } }
+        ensures behind { ClientIsLost false self.old self.new }
         ensures got { Stays (S.has_got self.old.flow.stream) (S.has_got self.new.flow.stream) }
     {
         self.flow.lose();
@@ -251,8 +248,7 @@ impl<S: Stream> Client<S> {
     /// It is cut off, since so much is held: what is owed is lost.
     pub(crate) fn cut_off(&mut self)
         ensures kept { (passage : Passage) → IsClient S.has_given S.has_got self.old passage → IsClient S.has_given S.has_got self.new passage }
-        ensures lost { self.new.flow.failed ≡ true }
-        ensures rest { self.new ≡ record self.old { flow = self.new.flow; cut = true } }
+        ensures behind { ClientIsLost true self.old self.new }
         ensures got { Stays (S.has_got self.old.flow.stream) (S.has_got self.new.flow.stream) }
     {
         self.lose();
@@ -263,7 +259,7 @@ impl<S: Stream> Client<S> {
     pub(crate) fn discard(&mut self, buffer: &mut [u8]) -> bool
         ensures kept { (passage : Passage) → IsClient S.has_given S.has_got self.old passage → IsClient S.has_given S.has_got self.new passage }
         ensures fails { FailsOnly S.has_failed ⊥ self.old.flow self.new.flow }
-        ensures rest { self.new ≡ record self.old { flow = self.new.flow } }
+        ensures behind { ClientIsDropped result self.old self.new }
         ensures open { self.old.closed ≡ false → (result ≡ false) × (self.new ≡ self.old) }
         ensures got { Stays (S.has_got self.old.flow.stream) (S.has_got self.new.flow.stream) }
     {
@@ -311,6 +307,44 @@ impl<S: Stream> Client<S> {
         ensures { nat_lt 0 result ≡ is_owed self.now.flow }
     {
         self.flow.weight()
+    }
+
+    /// Whether octets wait to be written to it, and may be taken now.
+    pub(crate) fn may_be_written(&self) -> bool
+        ensures { result ≡ may_be_written self.now.flow }
+    {
+        self.flow.may_be_written()
+    }
+
+    /// Whether something is to be heard of it: it may be read, or its link has failed, which isn't told yet.
+    pub(crate) fn is_to_be_heard(&self) -> bool
+        ensures { result ≡ is_client_heard self.now }
+    {
+        self.may_be_read() || self.is_broken()
+    }
+
+    /// Whether a read may bring something now, and isn't held back: nothing is owed to it; and where its connection is
+    /// open, it hasn't ended, and none of its requests awaits its reply.
+    fn may_be_read(&self) -> bool
+        ensures { result ≡ may_be_read self.now }
+    {
+        self.flow.is_readable()
+            && !self.flow.is_owed()
+            && (self.closed || (!self.ended && !self.waits))
+    }
+
+    /// Whether its link has failed, which is to be told, or lets it go.
+    fn is_broken(&self) -> bool
+        ensures { result ≡ is_broken self.now }
+    {
+        self.flow.has_failed() && (self.closed || !self.ended)
+    }
+
+    /// Whether the cache has closed its connection, its link works, and all that was owed to it was written.
+    pub(crate) fn is_closing(&self) -> bool
+        ensures { result ≡ is_closing self.now }
+    {
+        self.closed && !self.flow.has_failed() && !self.flow.is_owed()
     }
 
     /// Whether octets of it wait to be read, as far as a look tells.

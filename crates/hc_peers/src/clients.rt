@@ -9,6 +9,7 @@ use std::alloc::AllocError;
 
 impl<S: Stream + Drop> Peers<S> {
     ghost use Rattle.std.specs.BTreeMap.{get};
+    ghost use Rattle.std.specs.Option.{IsSomeAnd};
     ghost use Rattle.std.specs.Ordering.{nat_cmp};
     ghost use Rattle.hc_events.specs.declared.Happening.TheVariants.{ClientOpened};
     ghost use Rattle.hc_flow.specs.Hearings.{IsHeardInTurn, IsRealEnd};
@@ -17,6 +18,7 @@ impl<S: Stream + Drop> Peers<S> {
     ghost use Rattle.hc_order.specs.Log.{Move};
     ghost use Rattle.hc_order.specs.Log.Move.{Closed};
     ghost use Rattle.hc_order.specs.Mirrors.{MayHappen};
+    ghost use Rattle.hc_peers.specs.Behind.{Behind, ClientIsClosed, ClientIsDropped, ClientIsHeard, ClientIsLost, IsFreshClient, is_closing_at};
     ghost use Rattle.hc_peers.specs.Clients.{may_go};
     ghost use Rattle.hc_peers.specs.Heard.{IsAnswerOf, told};
     ghost use Rattle.hc_peers.specs.Hearings.{HasEndedAt, HasFailedAt, IsHeardFor, IsToldAtOnce};
@@ -44,6 +46,7 @@ impl<S: Stream + Drop> Peers<S> {
         ensures err { OnErr result (self.new ≡ record self.old { clients = self.new.clients }) }
         ensures unused { OnErr result (get nat_cmp self.new.clients.links number ≡ get nat_cmp self.old.clients.links number) }
         ensures others { KeepsOthers number self.old.clients.links self.new.clients.links }
+        ensures behind { OnOk result (IsSomeAnd (get nat_cmp self.new.clients.links number) (IsFreshClient stream tick)) }
         ensures pace { OnOk result (pace_at number self.new.clients.links ≡ Some (Idle tick)) }
         ensures cut { OnOk result (is_cut_at number self.new.clients.links ≡ false) }
     {
@@ -69,6 +72,7 @@ impl<S: Stream + Drop> Peers<S> {
         ensures over { IsRealEnd (HasEndedAt S.has_ended (known_at number self.new.clients.links)) result }
         ensures fails { FailsOnlyAt S.has_failed ((hearing.late ≡ true) ⊎ IsErr result) (to.Client number) self.old self.new }
         ensures at_once { is_open_at number self.old.clients.links ≡ true → IsToldAtOnce (is_cut_at number self.old.clients.links) hearing.late result }
+        ensures behind { Behind (ClientIsHeard hearing result) (get nat_cmp self.old.clients.links number) (get nat_cmp self.new.clients.links number) }
         ensures pace { pace_at number self.new.clients.links ≡ option_map (pace_behind result hearing.tick) (pace_at number self.old.clients.links) }
         ensures cut { is_cut_at number self.new.clients.links ≡ is_cut_at number self.old.clients.links }
         ensures only { ChangesOnly (to.Client number) self.old self.new }
@@ -84,6 +88,7 @@ impl<S: Stream + Drop> Peers<S> {
         ensures tells { (bounds : Bounds) (log : List Move) → ArePeers S.has_given S.has_got bounds self.old log
             → ArePeers S.has_given S.has_got bounds self.new (Closed (to.Client number) ∷ log) }
         ensures shown { (log : List Move) → ShowNoMore S.has_got self.old log → ShowNoMore S.has_got self.new log }
+        ensures behind { Behind ClientIsClosed (get nat_cmp self.old.clients.links number) (get nat_cmp self.new.clients.links number) }
         // Behind what is owed our half is ended.
         ensures ends { is_there_and (get nat_cmp self.new.clients.links number) (λ client. client.closed && client.flow.ends) ≡ is_some (get nat_cmp self.old.clients.links number) }
         ensures waits { held_at number self.new.clients.links ≡ held_at number self.old.clients.links }
@@ -124,9 +129,20 @@ impl<S: Stream + Drop> Peers<S> {
         }
     }
 
+    /// Whether the cache has closed a client's connection, its link works, and all that was owed to it was written.
+    pub fn is_closing(&self, number: u64) -> bool
+        ensures { result ≡ is_closing_at number self.now }
+    {
+        match self.clients.links.get(&number) {
+            Some(client) => client.is_closing(),
+            None => false,
+        }
+    }
+
     /// A client's time is over: what is owed to it is lost.
     pub fn lose_client(&mut self, number: u64)
         ensures kept { KeepsPeers S.has_given S.has_got self.old self.new }
+        ensures behind { Behind (ClientIsLost false) (get nat_cmp self.old.clients.links number) (get nat_cmp self.new.clients.links number) }
         ensures lost { is_failed_at number self.new.clients.links ≡ is_some (get nat_cmp self.old.clients.links number) }
         ensures pace { KeepsPace number self.old.clients.links self.new.clients.links }
         ensures only { ChangesOnly (to.Client number) self.old self.new }
@@ -140,6 +156,7 @@ impl<S: Stream + Drop> Peers<S> {
     /// A client is cut off, since so much is held: what is owed to it is lost, and its end is heard next.
     pub fn cut_off(&mut self, number: u64)
         ensures kept { KeepsPeers S.has_given S.has_got self.old self.new }
+        ensures behind { Behind (ClientIsLost true) (get nat_cmp self.old.clients.links number) (get nat_cmp self.new.clients.links number) }
         ensures cut { is_cut_at number self.new.clients.links ≡ is_some (get nat_cmp self.old.clients.links number) }
         ensures lost { is_failed_at number self.new.clients.links ≡ is_some (get nat_cmp self.old.clients.links number) }
         ensures pace { pace_at number self.new.clients.links ≡ pace_at number self.old.clients.links }
@@ -154,6 +171,7 @@ impl<S: Stream + Drop> Peers<S> {
     /// Reads what a client whose connection is closed still sends, and drops it. Returns whether nothing more comes.
     pub fn discard(&mut self, number: u64, buffer: &mut [u8]) -> bool
         ensures kept { KeepsPeers S.has_given S.has_got self.old self.new }
+        ensures behind { Behind (ClientIsDropped result) (get nat_cmp self.old.clients.links number) (get nat_cmp self.new.clients.links number) }
         ensures open { is_open_at number self.old.clients.links ≡ true → (result ≡ false) × (known_at number self.new.clients.links ≡ known_at number self.old.clients.links) }
         ensures fails { FailsOnlyAt S.has_failed ⊥ (to.Client number) self.old self.new }
         ensures pace { KeepsPace number self.old.clients.links self.new.clients.links }

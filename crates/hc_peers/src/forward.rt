@@ -1,6 +1,6 @@
 //! One forward, and how far the origin was reached for it.
 
-ghost use Rattle.std.specs.Prelude.{◌≡◌, ◌+◌, ◌-◌, ◌^◌, ◌<◌, ◌&&◌, ◌||◌, not, false, true, [], None, Some, is_some, min, unwrap_or, IsErr, OnOk, OnErr};
+ghost use Rattle.std.specs.Prelude.{◌≡◌, ◌+◌, ◌-◌, ◌^◌, ◌<◌, ◌&&◌, ◌||◌, not, false, true, [], None, Some, is_ok, is_some, min, unwrap_or, IsErr, OnOk};
 
 use crate::origin_link::OriginLink;
 use hc_flow::{Emptying, Heard, Progress, Readiness, Stream, wants_turn, weight_of};
@@ -36,6 +36,7 @@ pub struct Forward<S: Stream> {
 impl<S: Stream + Drop> Forward<S> {
     ghost use Rattle.std.specs.Option.{option_copied};
     ghost use Rattle.hc_order.specs.Passages.{Passage, opened_with};
+    ghost use Rattle.hc_peers.specs.Behind.{ForwardHears, ForwardIsLinked, ForwardIsWritten, ForwardLearns, ForwardRetries, IsFreshForward, brings_news, is_forward_heard, may_be_written_on, may_retry};
     ghost use Rattle.hc_peers.specs.Losses.{HasEnded, IsLostBy};
     ghost use Rattle.hc_flow.specs.Hearings.{IsEndOf, IsHeardOpen, KeepsHeard, ends_by, wants_turn};
     ghost use Rattle.hc_peers.specs.Forwards.{HasUnusedLink, IsForward, StaysReached, has_link, is_linked_and, is_opening, is_waiting, lingers, link_of, progress_at};
@@ -44,6 +45,7 @@ impl<S: Stream + Drop> Forward<S> {
     /// One whose request waits for a link.
     pub(crate) fn new(request: MessageText) -> Self
         ensures opened { IsForward S.has_given S.has_got result (opened_with request) }
+        ensures behind { IsFreshForward result }
         ensures linked { has_link result.reaching ≡ false }
         ensures begun { (result.begun ≡ None) × (result.attempts ≡ 0) }
     {
@@ -64,7 +66,7 @@ impl<S: Stream + Drop> Forward<S> {
         ensures rest { self.new ≡ record self.old { reaching = self.new.reaching; attempts = min (self.old.attempts + 1) (2 ^ 32 - 1); begun = Some (unwrap_or self.old.begun tick) } }
         ensures progress { OnOk result (is_waiting self.old.reaching ≡ true
             → progress_at self.new.reaching ≡ Some (record { begun = unwrap_or self.old.begun tick; last = tick })) }
-        ensures err { OnErr result (self.new.reaching ≡ self.old.reaching) }
+        ensures behind { ForwardIsLinked (is_ok result) tick self.old self.new }
     {
         self.attempts = self.attempts.saturating_add(1);
         let begun = self.begun.unwrap_or(tick);
@@ -100,6 +102,7 @@ impl<S: Stream + Drop> Forward<S> {
         ensures reason { IsLostBy S.has_failed self.old.reaching self.new.reaching result }
         ensures over { IsEndOf (HasEnded S.has_ended self.new.reaching) result }
         ensures stays { StaysReached S.has_failed (IsErr result) self.old.reaching self.new.reaching }
+        ensures behind { ForwardHears result tick self.old self.new }
         ensures rest { self.new ≡ record self.old { reaching = self.new.reaching; ended = ends_by result self.old.ended } }
     {
         if self.ended {
@@ -122,7 +125,7 @@ impl<S: Stream + Drop> Forward<S> {
         ensures owed { TellsOwed result (is_linked_and self.new.reaching (λ link. is_owed link.flow)) }
         ensures stays { StaysReached S.has_failed ⊥ self.old.reaching self.new.reaching }
         ensures linked { has_link self.new.reaching ≡ true → has_link self.old.reaching ≡ true }
-        ensures rest { self.new ≡ record self.old { reaching = self.new.reaching } }
+        ensures behind { ForwardIsWritten result tick self.old self.new }
     {
         match &mut self.reaching {
             Reaching::Waiting(_) => None,
@@ -136,7 +139,7 @@ impl<S: Stream + Drop> Forward<S> {
         ensures kept { (passage : Passage) → IsForward S.has_given S.has_got self.old passage → IsForward S.has_given S.has_got self.new passage }
         ensures first { result ≡ (wants_turn readiness && not self.old.queued) }
         ensures stays { StaysReached S.has_failed ((is_opening self.old.reaching && readiness.failed) ≡ true) self.old.reaching self.new.reaching }
-        ensures rest { self.new ≡ record self.old { reaching = self.new.reaching; queued = wants_turn readiness || self.old.queued } }
+        ensures behind { ForwardLearns readiness self.old self.new }
         ensures linked { has_link self.new.reaching ≡ true → has_link self.old.reaching ≡ true }
     {
         let wanted = wants_turn(readiness);
@@ -154,9 +157,8 @@ impl<S: Stream + Drop> Forward<S> {
         ensures kept { (passage : Passage) → IsForward S.has_given S.has_got self.old passage → IsForward S.has_given S.has_got self.new passage }
         ensures unused { result ≡ true → (passage : Passage) → IsForward S.has_given S.has_got self.old passage
             → HasUnusedLink S.has_given S.has_got self.old.reaching }
-        ensures waits { result ≡ true → is_waiting self.new.reaching ≡ true }
-        ensures none { result ≡ false → self.new ≡ self.old }
-        ensures rest { self.new ≡ record self.old { reaching = self.new.reaching } }
+        ensures can { result ≡ may_retry self.old.reaching }
+        ensures behind { ForwardRetries result self.old self.new }
         ensures linked { has_link self.new.reaching ≡ true → has_link self.old.reaching ≡ true }
     {
         let Reaching::Linked(link) = &mut self.reaching else {
@@ -167,6 +169,16 @@ impl<S: Stream + Drop> Forward<S> {
         };
         self.reaching = Reaching::Waiting(request);
         true
+    }
+
+    /// Whether its request may wait for another link: its link has failed before it was known to work.
+    pub(crate) fn may_retry(&self) -> bool
+        ensures { result ≡ may_retry self.now.reaching }
+    {
+        match self.linked() {
+            Some(link) => link.may_take_back(),
+            None => false,
+        }
     }
 
     /// The stream, where the link works and the origin hasn't ended it: our half is ended, and what waits is dropped.
@@ -242,6 +254,34 @@ impl<S: Stream + Drop> Forward<S> {
         match self.linked() {
             Some(link) => link.flow.is_owed(),
             None => false,
+        }
+    }
+
+    /// Whether octets wait to be written on a link that works, and may be taken now.
+    pub(crate) fn may_be_written(&self) -> bool
+        ensures { result ≡ may_be_written_on self.now.reaching }
+    {
+        match self.linked() {
+            Some(link) => link.may_be_written(),
+            None => false,
+        }
+    }
+
+    /// Whether something is to be heard of it: its end wasn't told, and there is no link any more, or it has failed, or it
+    /// works and a read may bring something.
+    pub(crate) fn is_to_be_heard(&self) -> bool
+        ensures { result ≡ is_forward_heard self.now }
+    {
+        !self.ended && self.brings_news()
+    }
+
+    fn brings_news(&self) -> bool
+        ensures { result ≡ brings_news self.now.reaching }
+    {
+        match &self.reaching {
+            Reaching::Waiting(_) => false,
+            Reaching::Linked(link) => link.brings_news(),
+            Reaching::Lost(_) => true,
         }
     }
 

@@ -1,6 +1,6 @@
 //! What happens at the links of forwards.
 
-ghost use Rattle.std.specs.Prelude.{◌≡◌, ◌&&◌, not, true, false, List, [], ◌∷◌, is_some, option_map, unwrap_or, IsErr};
+ghost use Rattle.std.specs.Prelude.{◌≡◌, ◌&&◌, not, true, false, List, [], ◌∷◌, None, is_some, option_map, unwrap_or, IsErr};
 
 use crate::forward::Forward;
 use crate::peers::Peers;
@@ -19,6 +19,7 @@ impl<S: Stream + Drop> Peers<S> {
     ghost use Rattle.hc_order.specs.Log.{Move};
     ghost use Rattle.hc_order.specs.Log.Move.{Closed};
     ghost use Rattle.hc_flow.specs.Hearings.{IsEndOf};
+    ghost use Rattle.hc_peers.specs.Behind.{Behind, ForwardGoesBy, ForwardIsLinked, ForwardIsLost, ForwardRetries, IsOpened, OpensForward, can_retry};
     ghost use Rattle.hc_peers.specs.Forwards.{HasUnusedLink, begun_at, is_linked, is_waiting_at, lingers, lost_at};
     ghost use Rattle.hc_peers.specs.Heard.{NoAnswer, told};
     ghost use Rattle.hc_peers.specs.Keeping.{Hears, KeepsPeers};
@@ -38,7 +39,9 @@ impl<S: Stream + Drop> Peers<S> {
         ensures sent { (bounds : Bounds) (log : List Move) → ArePeers S.has_given S.has_got bounds self.old log
             → TellsSent (ArePeers S.has_given S.has_got bounds self.new) result (Origin forward) request.now log }
         ensures shown { (log : List Move) → ShowNoMore S.has_got self.old log → ShowNoMore S.has_got self.new log }
+        ensures behind { IsOpened result (get nat_cmp self.old.forwards.links forward) (get nat_cmp self.new.forwards.links forward) }
         ensures only { ChangesSent (Origin forward) self.old self.new }
+        ensures opened { OpensForward forward result self.old self.new }
     {
         self.places.open(forward)?;
         let opened = Forward::new(request.share()?);
@@ -57,6 +60,7 @@ impl<S: Stream + Drop> Peers<S> {
         ensures reason { IsLossOf (get nat_cmp self.old.forwards.links forward) result }
         // An end is told only where the origin has ended what it sends, so that no response counts as whole by a failure.
         ensures over { IsEndOf (HasEndedAt S.has_ended (get nat_cmp self.new.forwards.links forward)) result }
+        ensures behind { ForwardGoesBy result tick (get nat_cmp self.old.forwards.links forward) (get nat_cmp self.new.forwards.links forward) }
         ensures stays { HearsAt S.has_failed (get nat_cmp self.old.forwards.links forward) (get nat_cmp self.new.forwards.links forward) result }
         ensures only { ChangesOnly (Origin forward) self.old self.new }
     {
@@ -77,6 +81,7 @@ impl<S: Stream + Drop> Peers<S> {
         ensures tells { (bounds : Bounds) (log : List Move) → ArePeers S.has_given S.has_got bounds self.old log
             → ArePeers S.has_given S.has_got bounds self.new (Closed (Origin forward) ∷ log) }
         ensures shown { (log : List Move) → ShowNoMore S.has_got self.old log → ShowNoMore S.has_got self.new log }
+        ensures behind { get nat_cmp self.new.forwards.links forward ≡ None }
         ensures lingers { is_some result ≡ is_there_and (get nat_cmp self.old.forwards.links forward) lingers }
         ensures only { ChangesOnly (Origin forward) self.old self.new }
     {
@@ -89,6 +94,7 @@ impl<S: Stream + Drop> Peers<S> {
     /// There is no link for a forward any more, or none could be made: that is heard next.
     pub fn lose_origin(&mut self, forward: u64, reason: Reason)
         ensures kept { KeepsPeers S.has_given S.has_got self.old self.new }
+        ensures behind { Behind (ForwardIsLost reason) (get nat_cmp self.old.forwards.links forward) (get nat_cmp self.new.forwards.links forward) }
         ensures lost { lost_at forward self.new.forwards.links ≡ option_map (λ _. reason) (get nat_cmp self.old.forwards.links forward) }
         ensures only { ChangesOnly (Origin forward) self.old self.new }
     {
@@ -104,6 +110,7 @@ impl<S: Stream + Drop> Peers<S> {
         ensures kept { S.has_given stream [] → S.has_got stream [] → KeepsPeers S.has_given S.has_got self.old self.new }
         ensures linked { result ≡ true → is_waiting_at forward self.old.forwards.links ≡ true → is_linked forward self.new.forwards ≡ true }
         ensures waits { result ≡ false → is_waiting_at forward self.new.forwards.links ≡ is_waiting_at forward self.old.forwards.links }
+        ensures behind { Behind (ForwardIsLinked result tick) (get nat_cmp self.old.forwards.links forward) (get nat_cmp self.new.forwards.links forward) }
         // The time that a forward may take in all is counted from the first link.
         ensures begun { result ≡ true → begun_at forward self.new.forwards.links
             ≡ option_map (λ kept. unwrap_or kept.begun tick) (get nat_cmp self.old.forwards.links forward) }
@@ -131,6 +138,8 @@ impl<S: Stream + Drop> Peers<S> {
         ensures kept { KeepsPeers S.has_given S.has_got self.old self.new }
         ensures unused { result ≡ true → (bounds : Bounds) (log : List Move) → ArePeers S.has_given S.has_got bounds self.old log
             → IsSomeAnd (get nat_cmp self.old.forwards.links forward) (λ kept. HasUnusedLink S.has_given S.has_got kept.reaching) }
+        ensures can { result ≡ can_retry forward self.old }
+        ensures behind { Behind (ForwardRetries result) (get nat_cmp self.old.forwards.links forward) (get nat_cmp self.new.forwards.links forward) }
         ensures waits { result ≡ true → is_waiting_at forward self.new.forwards.links ≡ true }
         ensures none { result ≡ false → get nat_cmp self.new.forwards.links forward ≡ get nat_cmp self.old.forwards.links forward }
         ensures begun { begun_at forward self.new.forwards.links ≡ begun_at forward self.old.forwards.links }
@@ -138,6 +147,16 @@ impl<S: Stream + Drop> Peers<S> {
     {
         match self.forwards.links.get_mut(&forward) {
             Some(failed) => failed.retry(),
+            None => false,
+        }
+    }
+
+    /// Whether a forward's request may wait for another link now: its link has failed before it was known to work.
+    pub fn can_retry(&self, forward: u64) -> bool
+        ensures { result ≡ can_retry forward self.now }
+    {
+        match self.forwards.links.get(&forward) {
+            Some(failed) => failed.may_retry(),
             None => false,
         }
     }

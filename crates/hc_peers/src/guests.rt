@@ -1,6 +1,8 @@
 //! Those who have connected, and of whom no octet has come.
 
 ghost use Rattle.std.specs.Prelude.{◌≡◌, ◌≤◌, ◌+◌, ◌∷◌, ◌++◌, ◌&&◌, not, true, false, ℕ, [], length, is_some, OnOk, OnErr, if◌then◌else◌};
+ghost use Rattle.std.proofs.Props.{props};
+ghost use Rattle.hc_peers.specs.Knocks.{KnocksStand};
 
 use crate::table::Table;
 use hc_flow::{Presence, Stream};
@@ -9,7 +11,7 @@ use std::collections::VecDeque;
 
 /// One who has connected, and of whom no octet was read.
 #[derive(Drop)]
-struct Guest<S: Stream> {
+struct Guest<S> {
     stream: S,
     /// Whether it stands among those who knock.
     knocks: bool,
@@ -18,12 +20,13 @@ struct Guest<S: Stream> {
 /// Those who have connected, and of whom no octet has come, by numbers of their own: the cache doesn't know of them. A
 /// guest who may have octets knocks, and is to be looked at then.
 #[derive(Drop)]
-pub struct Guests<S: Stream> {
+pub struct Guests<S> {
     table: Table<Guest<S>>,
     /// Those who knock, the one that has done so for longest first. Some of them may have gone.
     knocking: VecDeque<u64>,
     /// The number that was given last: 0 where none was.
     last: u64,
+    pub ghost stand: { KnocksStand table.links knocking.items } by { Prim.hlevel props },
 }
 
 impl<S: Stream + Drop> Guests<S> {
@@ -112,8 +115,9 @@ impl<S: Stream + Drop> Guests<S> {
         ensures many { length self.new.table.links.entries ≡ length self.old.table.links.entries }
         ensures last { self.new.last ≡ self.old.last }
     {
-        let number = self.knocking.pop_front()?;
+        let number = *self.knocking.front()?;
         self.quiet(number);
+        self.knocking.pop_front();
         Some(number)
     }
 

@@ -1,6 +1,6 @@
 //! Those who have connected, and of whom no octet has come, and those for whom there was no room.
 
-ghost use Rattle.std.specs.Prelude.{◌≡◌, true, false, Bool, ℕ, List, [], Some, IfSome, OnOk, is_some};
+ghost use Rattle.std.specs.Prelude.{◌≡◌, true, false, Bool, ℕ, List, [], Some, IfSome, OnErr, OnOk, is_some};
 
 use crate::peers::Peers;
 use crate::turned_away::{MOST_TURNED_AWAY, is_over, refused};
@@ -36,6 +36,7 @@ impl<S: Stream + Drop> Peers<S> {
             → ArePeers S.has_given S.has_got (AtMost most origin) self.new log }
         ensures shown { S.has_got stream [] → (log : List Move) → ShowNoMore S.has_got self.old log → ShowNoMore S.has_got self.new log }
         ensures ok { OnOk result ((stream_at guest self.new.guests ≡ Some stream) × (knocks guest self.new.guests ≡ true)) }
+        ensures err { OnErr result (get nat_cmp self.new.guests.table.links guest ≡ get nat_cmp self.old.guests.table.links guest) }
         ensures others { KeepsOthers guest self.old.guests.table.links self.new.guests.table.links }
         ensures rest { self.new ≡ record self.old { guests = self.new.guests } }
     {
@@ -122,6 +123,7 @@ impl<S: Stream + Drop> Peers<S> {
         ensures kept { KeepsPeers S.has_given S.has_got self.old self.new }
         ensures refused { (refusal : List ℕ) → IfSome (get nat_cmp self.old.turned_away.links guest) (IsRefused S.has_got S.was_ended refusal)
             → IfSome (get nat_cmp self.new.turned_away.links guest) (IsRefused S.has_got S.was_ended refusal) }
+        ensures there { is_some (get nat_cmp self.new.turned_away.links guest) ≡ is_some (get nat_cmp self.old.turned_away.links guest) }
         ensures others { KeepsOthers guest self.old.turned_away.links self.new.turned_away.links }
         ensures rest { self.new ≡ record self.old { turned_away = self.new.turned_away } }
     {

@@ -1,6 +1,6 @@
 //! A link to the origin that lingers.
 
-ghost use Rattle.std.specs.Prelude.{◌≡◌};
+ghost use Rattle.std.specs.Prelude.{◌≡◌, false};
 
 use hc_flow::{Arrival, Stream};
 
@@ -26,7 +26,8 @@ pub enum Remainder {
 impl<S: Stream> Lingerer<S> {
     /// One that doesn't stand among the turns.
     pub(crate) fn new(stream: S) -> Self
-        ensures { result.stream ≡ stream }
+        ensures stream { result.stream ≡ stream }
+        ensures queued { result.queued ≡ false }
     {
         Lingerer {
             stream,
@@ -35,7 +36,9 @@ impl<S: Stream> Lingerer<S> {
     }
 
     /// Reads what comes there, once, and drops it. It stands among the turns no more.
-    pub(crate) fn discard(&mut self, buffer: &mut [u8]) -> Remainder {
+    pub(crate) fn discard(&mut self, buffer: &mut [u8]) -> Remainder
+        ensures { self.new.queued ≡ false }
+    {
         self.queued = false;
         match self.stream.read(buffer) {
             Arrival::Octets(_) => Remainder::More,

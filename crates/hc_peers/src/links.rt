@@ -14,6 +14,7 @@ impl<S: Stream + Drop> Peers<S> {
     ghost use Rattle.hc_flow.specs.Hearings.{wants_turn};
     ghost use Rattle.hc_link_traits.specs.Telling.{TellsSent};
     ghost use Rattle.hc_order.specs.Log.{Move};
+    ghost use Rattle.hc_peers.specs.Behind.{IsSentTo, LearnsAt, OpensAt, WritesTo, is_heard_at, may_be_written_to};
     ghost use Rattle.hc_peers.specs.Keeping.{KeepsPeers};
     ghost use Rattle.hc_peers.specs.Known.{KeepsKnown};
     ghost use Rattle.hc_peers.specs.Peers.{ArePeers, Bounds, ChangesOnly, ChangesSent, FailsOnlyAt, KeepsPaceOf, PacesWritten, QueuesOf, SendsTo, is_failed_by, is_owed_to, is_readable_at, is_unqueued};
@@ -26,6 +27,8 @@ impl<S: Stream + Drop> Peers<S> {
             → TellsSent (ArePeers S.has_given S.has_got bounds self.new) result to octets.now log }
         ensures shown { (log : List Move) → ShowNoMore S.has_got self.old log → ShowNoMore S.has_got self.new log }
         ensures client { SendsTo S.has_failed to tick self.old self.new }
+        ensures behind { IsSentTo to result tick self.old self.new }
+        ensures opened { OpensAt to result self.old self.new }
         ensures only { ChangesSent to self.old self.new }
     {
         match to {
@@ -41,6 +44,7 @@ impl<S: Stream + Drop> Peers<S> {
     pub fn write(&mut self, link: Receiver, tick: u64) -> Option<Emptying>
         ensures tells { (bounds : Bounds) (log : List Move) → ArePeers S.has_given S.has_got bounds self.old log → ArePeers S.has_given S.has_got bounds self.new log }
         ensures owed { TellsOwed result (is_owed_to link self.new) }
+        ensures behind { WritesTo link result tick self.old self.new }
         ensures fails { FailsOnlyAt S.has_failed ⊥ link self.old self.new }
         ensures pace { PacesWritten result link tick self.old self.new }
         ensures only { ChangesOnly link self.old self.new }
@@ -61,6 +65,7 @@ impl<S: Stream + Drop> Peers<S> {
     pub fn learn(&mut self, link: Receiver, readiness: Readiness, tick: u64) -> bool
         ensures kept { KeepsPeers S.has_given S.has_got self.old self.new }
         ensures first { result ≡ (wants_turn readiness && is_unqueued link self.old) }
+        ensures behind { LearnsAt link readiness tick self.old self.new }
         ensures fails { FailsOnlyAt S.has_failed (is_failed_by readiness link self.old ≡ true) link self.old self.new }
         ensures pace { KeepsPaceOf link self.old self.new }
         ensures only { ChangesOnly link self.old self.new }
@@ -132,17 +137,33 @@ impl<S: Stream + Drop> Peers<S> {
         }
     }
 
-    /// Whether octets wait to be written to a link.
-    pub fn is_owed(&self, link: Receiver) -> bool
-        ensures { result ≡ is_owed_to link self.now }
+    /// Whether something is to be heard at a link.
+    pub fn is_to_be_heard(&self, link: Receiver) -> bool
+        ensures { result ≡ is_heard_at link self.now }
     {
         match link {
             Receiver::Client(number) => match self.clients.links.get(&number) {
-                Some(client) => client.flow.is_owed(),
+                Some(client) => client.is_to_be_heard(),
                 None => false,
             },
             Receiver::Origin(number) => match self.forwards.links.get(&number) {
-                Some(forward) => forward.is_owed(),
+                Some(forward) => forward.is_to_be_heard(),
+                None => false,
+            },
+        }
+    }
+
+    /// Whether octets wait to be written to a link, and may be taken now.
+    pub fn may_be_written(&self, link: Receiver) -> bool
+        ensures { result ≡ may_be_written_to link self.now }
+    {
+        match link {
+            Receiver::Client(number) => match self.clients.links.get(&number) {
+                Some(client) => client.may_be_written(),
+                None => false,
+            },
+            Receiver::Origin(number) => match self.forwards.links.get(&number) {
+                Some(forward) => forward.may_be_written(),
                 None => false,
             },
         }

@@ -1,6 +1,7 @@
 //! One link to the origin.
 
-ghost use Rattle.std.specs.Prelude.{◌≡◌, ◌<◌, ◌&&◌, ◌||◌, not, true, false, ℕ, List, [], length, Some, None, is_some, IfOk, IfSome, IsErr};
+ghost use Rattle.std.specs.Prelude.{◌≡◌, ◌<◌, ◌&&◌, ◌||◌, not, true, false, ℕ, List, [], None, is_some, IfOk, IfSome, IsErr};
+ghost use Rattle.hc_peers.specs.Behind.{left_to_read};
 
 use hc_flow::{Emptying, Flow, Heard, Progress, Readiness, Stream, hear_flow, weight_of};
 use hc_framing::MessageText;
@@ -18,11 +19,10 @@ pub(crate) struct OriginLink<S: Stream> {
 }
 
 impl<S: Stream + Drop> OriginLink<S> {
-    ghost use Rattle.hc_flow.specs.Paces.{progress_written};
     ghost use Rattle.hc_flow.specs.Hearings.{FailsOnly, GivesHeard, HasFailed, IsEndOf, IsRead};
-    ghost use Rattle.hc_peers.specs.Forwards.{IsLinked, IsUnused, spare_behind};
-    ghost use Rattle.hc_flow.specs.Flows.{TellsOwed, is_owed};
-    ghost use Rattle.hc_peers.specs.Times.{progress_behind};
+    ghost use Rattle.hc_peers.specs.Behind.{IsOpeningLink, LinkIsHeard, LinkIsWritten, LinkLearns, QuietLink};
+    ghost use Rattle.hc_peers.specs.Forwards.{IsLinked, IsUnused};
+    ghost use Rattle.hc_flow.specs.Flows.{TellsOwed, is_owed, may_be_written};
 
     /// One that begins to be made, and owes the request. So the forward is getting on.
     pub(crate) fn opening(
@@ -32,7 +32,7 @@ impl<S: Stream + Drop> OriginLink<S> {
         progress: Progress,
     ) -> Result<Self, AllocError>
         ensures linked { S.has_given stream [] → S.has_got stream [] → IfOk result (λ link. IsLinked S.has_given S.has_got link request.now []) }
-        ensures progress { IfOk result (λ link. link.progress ≡ progress) }
+        ensures behind { IfOk result (IsOpeningLink progress.begun progress.last) }
     {
         let spare = request.share()?;
         let mut flow = Flow::opening(alloc, stream);
@@ -63,7 +63,8 @@ impl<S: Stream + Drop> OriginLink<S> {
         ensures reason { IsRead (HasFailed S.has_failed self.old.flow self.new.flow) result }
         ensures over { IsEndOf (S.has_ended self.new.flow.stream) result }
         ensures fails { FailsOnly S.has_failed (IsErr result) self.old.flow self.new.flow }
-        ensures rest { self.new ≡ record self.old { flow = self.new.flow; progress = progress_behind result tick self.old.progress } }
+        ensures behind { LinkIsHeard result tick self.old self.new }
+        ensures quiet { QuietLink result self.new }
         ensures begun { self.new.progress.begun ≡ self.old.progress.begun }
     {
         if self.is_opening() {
@@ -82,7 +83,7 @@ impl<S: Stream + Drop> OriginLink<S> {
         ensures kept { (sent heard : List ℕ) → IsLinked S.has_given S.has_got self.old sent heard → IsLinked S.has_given S.has_got self.new sent heard }
         ensures owed { TellsOwed (Some result) (is_owed self.new.flow) }
         ensures fails { FailsOnly S.has_failed ⊥ self.old.flow self.new.flow }
-        ensures rest { self.new ≡ record self.old { flow = self.new.flow; progress = progress_written result (length self.old.flow.outbox) (length self.new.flow.outbox) tick self.old.progress } }
+        ensures behind { LinkIsWritten result tick self.old self.new }
         ensures begun { self.new.progress.begun ≡ self.old.progress.begun }
     {
         if self.is_opening() {
@@ -103,7 +104,7 @@ impl<S: Stream + Drop> OriginLink<S> {
     pub(crate) fn learn(&mut self, readiness: Readiness)
         ensures kept { (sent heard : List ℕ) → IsLinked S.has_given S.has_got self.old sent heard → IsLinked S.has_given S.has_got self.new sent heard }
         ensures fails { FailsOnly S.has_failed ((is_some self.old.spare && readiness.failed) ≡ true) self.old.flow self.new.flow }
-        ensures rest { self.new ≡ record self.old { flow = self.new.flow; spare = spare_behind readiness self.old.spare } }
+        ensures behind { LinkLearns readiness self.old self.new }
     {
         if !self.is_opening() {
             self.flow.learn(left_to_read(readiness));
@@ -123,6 +124,7 @@ impl<S: Stream + Drop> OriginLink<S> {
         ensures kept { (sent heard : List ℕ) → IsLinked S.has_given S.has_got self.old sent heard → IsLinked S.has_given S.has_got self.new sent heard }
         ensures back { (sent heard : List ℕ) → IsLinked S.has_given S.has_got self.old sent heard
             → IfSome result (λ request. IsUnused S.has_given S.has_got self.old × (heard ≡ []) × (sent ≡ request)) }
+        ensures can { is_some result ≡ (self.old.flow.failed && is_some self.old.spare) }
         ensures rest { self.new ≡ record self.old { spare = self.new.spare } }
         ensures none { result ≡ None → self.new ≡ self.old }
     {
@@ -130,6 +132,20 @@ impl<S: Stream + Drop> OriginLink<S> {
             return None;
         }
         self.spare.take()
+    }
+
+    /// Whether the request may be taken back.
+    pub(crate) fn may_take_back(&self) -> bool
+        ensures { result ≡ (self.now.flow.failed && is_some self.now.spare) }
+    {
+        self.flow.has_failed() && self.spare.is_some()
+    }
+
+    /// Whether it works, octets wait to be written, and may be taken now.
+    pub(crate) fn may_be_written(&self) -> bool
+        ensures { result ≡ (not (is_some self.now.spare) && may_be_written self.now.flow) }
+    {
+        !self.is_opening() && self.flow.may_be_written()
     }
 
     /// The stream, where the link works: our half is ended, and what waits is dropped.
@@ -147,6 +163,13 @@ impl<S: Stream + Drop> OriginLink<S> {
         Some(stream)
     }
 
+    /// Whether it has failed, or works and a read may bring something.
+    pub(crate) fn brings_news(&self) -> bool
+        ensures { result ≡ (self.now.flow.failed || (not (is_some self.now.spare) && self.now.flow.readable)) }
+    {
+        self.flow.has_failed() || (!self.is_opening() && self.flow.is_readable())
+    }
+
     /// How many octets of memory are held for what is owed, and for the request.
     pub(crate) fn weight(&self) -> usize
         ensures { is_owed self.now.flow ≡ true → 0 < result }
@@ -158,16 +181,14 @@ impl<S: Stream + Drop> OriginLink<S> {
     }
 }
 
-/// What is told of a link that works: that it has failed is left to the next read or write.
+/// What is told of a link that works: that it has failed is left to be read, like an end.
 fn left_to_read(readiness: Readiness) -> Readiness
-    ensures failed { result.failed ≡ false }
-    ensures ended { result.ended ≡ readiness.ended }
-    ensures ready { (result.readable ≡ (readiness.readable || readiness.failed)) × (result.writable ≡ (readiness.writable || readiness.failed)) }
+    ensures { result ≡ left_to_read readiness }
 {
     Readiness {
         readable: readiness.readable | readiness.failed,
-        writable: readiness.writable | readiness.failed,
-        ended: readiness.ended,
+        writable: readiness.writable,
+        ended: readiness.ended | readiness.failed,
         failed: false,
     }
 }

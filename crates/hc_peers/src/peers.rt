@@ -60,7 +60,8 @@ impl<S: Stream + Drop> Peers<S> {
 
     /// Nobody has connected, no forward is open, and there are so many places at the origin.
     pub fn new(alloc: Global, places: usize) -> Self
-        ensures { (clients : ℕ) → ArePeers S.has_given S.has_got (AtMost clients places) result [] }
+        ensures told { (clients : ℕ) → ArePeers S.has_given S.has_got (AtMost clients places) result [] }
+        ensures none { NoLinkIsLeft result }
     {
         Peers {
             alloc,

@@ -1,6 +1,6 @@
 //! Forwards get places at the origin, and links that linger keep theirs.
 
-ghost use Rattle.std.specs.Prelude.{◌≡◌, ◌&&◌, ◌||◌, not, true, false, ℕ, IfSome, OnOk};
+ghost use Rattle.std.specs.Prelude.{◌≡◌, ◌++◌, ◌∷◌, [], ◌&&◌, ◌||◌, not, true, false, ℕ, None, option_map, IfSome, OnErr, OnOk};
 
 use crate::lingerer::{Lingerer, Remainder};
 use crate::peers::Peers;
@@ -12,8 +12,10 @@ use std::mem;
 impl<S: Stream + Drop> Peers<S> {
     ghost use Rattle.std.specs.BTreeMap.{get, is_at};
     ghost use Rattle.std.specs.Ordering.{nat_cmp};
-    ghost use Rattle.hc_agenda.specs.Places.{HasPlaceLeft, has_place};
+    ghost use Rattle.hc_agenda.specs.Places.{ChangesLine, ChangesOpened, HasPlaceLeft, IsNext, KeepsLines, TakesForward, TakesNext, awaited_in, has_place, line_of, opened_in, unawaited_in, without_first};
+    ghost use Rattle.hc_peers.specs.Behind.{Behind, LingersBy, StandsNoMore, in_turn};
     ghost use Rattle.hc_peers.specs.Lingering.{GainsNoLingerer, is_lingering};
+    ghost use Rattle.hc_peers.specs.Tables.{KeepsOthers, is_there_and};
     ghost use Rattle.hc_peers.specs.Forwards.{is_linked};
     ghost use Rattle.hc_peers.specs.Keeping.{KeepsPeers};
 
@@ -22,6 +24,8 @@ impl<S: Stream + Drop> Peers<S> {
     pub fn linger(&mut self, forward: u64, stream: S) -> bool
         ensures kept { KeepsPeers S.has_given S.has_got self.old self.new }
         ensures others { (f : ℕ) → is_at (nat_cmp forward) f ≡ false → is_lingering f self.new.lingering ≡ is_lingering f self.old.lingering }
+        ensures behind { LingersBy result (get nat_cmp self.old.lingering.links forward) (get nat_cmp self.new.lingering.links forward) }
+        ensures same { KeepsOthers forward self.old.lingering.links self.new.lingering.links }
         ensures rest { self.new ≡ record self.old { lingering = self.new.lingering } }
     {
         if !self.may_linger(forward) {
@@ -50,6 +54,9 @@ impl<S: Stream + Drop> Peers<S> {
     /// A link that lingers stands among the turns. Returns whether it lingers and didn't stand there before.
     pub fn queue_lingering(&mut self, forward: u64) -> bool
         ensures kept { KeepsPeers S.has_given S.has_got self.old self.new }
+        ensures first { result ≡ is_there_and (get nat_cmp self.old.lingering.links forward) (λ lingerer. not lingerer.queued) }
+        ensures behind { get nat_cmp self.new.lingering.links forward ≡ option_map in_turn (get nat_cmp self.old.lingering.links forward) }
+        ensures same { KeepsOthers forward self.old.lingering.links self.new.lingering.links }
         ensures gains { GainsNoLingerer self.old.lingering self.new.lingering }
         ensures rest { self.new ≡ record self.old { lingering = self.new.lingering } }
     {
@@ -62,6 +69,8 @@ impl<S: Stream + Drop> Peers<S> {
     /// Reads what comes on a link that lingers, once, and drops it. It stands among the turns no more.
     pub fn discard_lingering(&mut self, forward: u64, buffer: &mut [u8]) -> Remainder
         ensures kept { KeepsPeers S.has_given S.has_got self.old self.new }
+        ensures behind { Behind StandsNoMore (get nat_cmp self.old.lingering.links forward) (get nat_cmp self.new.lingering.links forward) }
+        ensures same { KeepsOthers forward self.old.lingering.links self.new.lingering.links }
         ensures gains { GainsNoLingerer self.old.lingering self.new.lingering }
         ensures rest { self.new ≡ record self.old { lingering = self.new.lingering } }
     {
@@ -74,28 +83,21 @@ impl<S: Stream + Drop> Peers<S> {
     /// Drops a link that lingers. Returns whether it lingered.
     pub fn drop_lingering(&mut self, forward: u64) -> bool
         ensures kept { KeepsPeers S.has_given S.has_got self.old self.new }
+        ensures was { result ≡ is_lingering forward self.old.lingering }
+        ensures behind { get nat_cmp self.new.lingering.links forward ≡ None }
+        ensures same { KeepsOthers forward self.old.lingering.links self.new.lingering.links }
         ensures gains { GainsNoLingerer self.old.lingering self.new.lingering }
         ensures rest { self.new ≡ record self.old { lingering = self.new.lingering } }
     {
         self.lingering.links.remove(&forward).is_some()
     }
 
-    /// Drops the link of the least forward whose link lingers, and answers which that is.
-    pub fn drop_least_lingering(&mut self) -> Option<u64>
-        ensures kept { KeepsPeers S.has_given S.has_got self.old self.new }
-        ensures gains { GainsNoLingerer self.old.lingering self.new.lingering }
-        ensures rest { self.new ≡ record self.old { lingering = self.new.lingering } }
-    {
-        match self.lingering.links.pop_first() {
-            Some((forward, _)) => Some(forward),
-            None => None,
-        }
-    }
-
     /// The first of the forwards that were opened and aren't sorted yet, which is taken out.
     pub fn next_opened(&mut self) -> Option<u64>
         ensures kept { KeepsPeers S.has_given S.has_got self.old self.new }
         ensures rest { self.new ≡ record self.old { places = self.new.places } }
+        ensures first { TakesForward result (opened_in self.old.places) (opened_in self.new.places) }
+        ensures line { ChangesOpened self.old.places self.new.places }
     {
         self.places.next_opened()
     }
@@ -104,6 +106,9 @@ impl<S: Stream + Drop> Peers<S> {
     pub fn wait_for_place(&mut self, forward: u64, background: bool) -> Result<(), AllocError>
         ensures kept { KeepsPeers S.has_given S.has_got self.old self.new }
         ensures rest { self.new ≡ record self.old { places = self.new.places } }
+        ensures ok { OnOk result (line_of background self.new.places ≡ line_of background self.old.places ++ forward ∷ []) }
+        ensures err { OnErr result (line_of background self.new.places ≡ line_of background self.old.places) }
+        ensures line { ChangesLine background self.old.places self.new.places }
     {
         self.places.wait(forward, background)
     }
@@ -113,6 +118,9 @@ impl<S: Stream + Drop> Peers<S> {
     pub fn leave_places(&mut self, forward: u64)
         ensures kept { KeepsPeers S.has_given S.has_got self.old self.new }
         ensures rest { self.new ≡ record self.old { places = self.new.places } }
+        ensures opened { opened_in self.new.places ≡ opened_in self.old.places }
+        ensures awaited { awaited_in self.new.places ≡ without_first forward (awaited_in self.old.places) }
+        ensures unawaited { unawaited_in self.new.places ≡ without_first forward (unawaited_in self.old.places) }
     {
         self.places.leave(forward);
     }
@@ -121,6 +129,8 @@ impl<S: Stream + Drop> Peers<S> {
     pub fn next_candidate(&mut self) -> Option<Candidate>
         ensures kept { KeepsPeers S.has_given S.has_got self.old self.new }
         ensures rest { self.new ≡ record self.old { places = self.new.places } }
+        ensures first { IsNext self.old.places result }
+        ensures taken { TakesNext result self.old.places self.new.places }
         ensures left { IfSome result (λ _. HasPlaceLeft self.new.places) }
     {
         self.places.next()
@@ -132,6 +142,7 @@ impl<S: Stream + Drop> Peers<S> {
         ensures kept { KeepsPeers S.has_given S.has_got self.old self.new }
         ensures given { OnOk result (has_place candidate.forward self.new.places ≡ true) }
         ensures rest { self.new ≡ record self.old { places = self.new.places } }
+        ensures lines { KeepsLines self.old.places self.new.places }
     {
         self.places.give(candidate)
     }
@@ -142,6 +153,7 @@ impl<S: Stream + Drop> Peers<S> {
         ensures freed { is_linked forward self.old.forwards ≡ false → is_lingering forward self.old.lingering ≡ false → has_place forward self.new.places ≡ false }
         ensures others { (f : ℕ) → is_at (nat_cmp forward) f ≡ false → has_place f self.new.places ≡ has_place f self.old.places }
         ensures rest { self.new ≡ record self.old { places = self.new.places } }
+        ensures lines { KeepsLines self.old.places self.new.places }
     {
         if self.needs_place(forward) {
             return;

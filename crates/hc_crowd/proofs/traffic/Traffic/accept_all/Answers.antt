@@ -1,4 +1,4 @@
-use Rattle.hc_crowd.proofs.KeepingLemmas.{within_then}
+use Rattle.hc_attended.proofs.KeepingLemmas.{within_then}
 use Rattle.hc_crowd.proofs.traffic.Traffic.accept_all.Goals as goal
 
 pub returns-in_err-accept : goal.returns-in_err-accept

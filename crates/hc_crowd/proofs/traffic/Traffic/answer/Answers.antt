@@ -1,4 +1,4 @@
-use Rattle.hc_crowd.proofs.KeepingLemmas.{keeps_within, hears_nothing_within}
+use Rattle.hc_attended.proofs.KeepingLemmas.{keeps_within, hears_nothing_within}
 use Rattle.hc_crowd.proofs.traffic.Traffic.answer.Goals as goal
 
 pub returns-in-Later : goal.returns-in-Later

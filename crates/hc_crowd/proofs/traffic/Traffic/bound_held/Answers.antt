@@ -8,7 +8,7 @@ use Rattle.hc_crowd.proofs.traffic.Traffic.bound_held.Goals as goal
 pub returns-clause-cuts : goal.returns-clause-cuts
 returns-clause-cuts g c =
     let holds = g.A.Awaiting.holds c.args.cache.now in
-    let peers = c.args.self.now.peers in
+    let peers = c.args.self.now.links.peers in
     let ranked = c.into_ranking.result.loads.items in
     let adds = adds_both holds peers (weighed_clients peers.clients.links.entries) (weighed_forwards peers.forwards.links.entries) _ _ _ c.in_ok-weigh_clients.ensures c.in_ok-weigh_forwards.ensures in
     inr (record {
@@ -16,5 +16,5 @@ returns-clause-cuts g c =
       are = adds.are;
       ranked = ranked;
       same = subst (λ (l : List Load). IsPermutation l ranked) (adds.added ∙ ap (λ (l : List Load). l ++ adds.loads) c.new-reckoning.ensures) c.into_ranking.ensures;
-      lightened = c.lighten.ensures.cuts;
+      lightened = rw c.reckoned.ensures c.lighten-left.ensures.cuts;
     })

@@ -1,10 +1,9 @@
-use Rattle.hc_crowd.proofs.KeepingLemmas.{keeps_then}
-use Rattle.hc_crowd.proofs.LighteningLemmas.{others_stay, others_then}
+use Rattle.hc_order.specs.declared.receiver.Receiver.TheVariants.{Client, Origin}
+use Rattle.hc_crowd.proofs.LighteningLemmas.{others_stay}
 use Rattle.hc_crowd.proofs.traffic.Traffic.cut_off.Goals as goal
 
-pub returns-clause-kept : goal.returns-clause-kept
-returns-clause-kept g c = keeps_then c.lose_heavy.ensures.kept c.give_turn_now.ensures.kept
+pub returns-in-Client-clause-others : goal.returns-in-Client-clause-others
+returns-in-Client-clause-others g c = rw c.in-Client.is (others_stay (Client c.in-Client.number) _ _ c.cut_off.ensures.only)
 
-pub returns-clause-others : goal.returns-clause-others
-returns-clause-others g c =
-    others_then c.args.link _ c.lose_heavy.new.self.peers _ (others_stay c.args.link _ _ c.lose_heavy.ensures.only) (others_stay c.args.link _ _ c.give_turn_now.ensures.only)
+pub returns-in-Origin-clause-others : goal.returns-in-Origin-clause-others
+returns-in-Origin-clause-others g c = rw c.in-Origin.is (others_stay (Origin c.in-Origin.forward) _ _ c.lose_origin_now.ensures.only)

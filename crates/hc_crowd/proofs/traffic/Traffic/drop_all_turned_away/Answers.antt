@@ -1,4 +1,4 @@
-use Rattle.hc_crowd.proofs.KeepingLemmas.{keeps_then}
+use Rattle.hc_attended.proofs.KeepingLemmas.{keeps_then}
 use Rattle.hc_crowd.proofs.traffic.Traffic.drop_all_turned_away.Goals as goal
 
 pub turned_away-preserved : goal.turned_away-preserved

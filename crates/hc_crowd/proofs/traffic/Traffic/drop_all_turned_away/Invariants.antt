@@ -3,4 +3,4 @@ use Rattle.hc_crowd.proofs.traffic.Traffic.drop_all_turned_away.Given as goal
 
 -- what was told so far is told still, and nothing was written
 abbrev pub invariant-turned_away : goal.invariant-turned_away
-invariant-turned_away g l = KeepsPeers g.W.Stream.Stream.has_given g.W.Stream.Stream.has_got l.initial.self.peers l.self.peers
+invariant-turned_away g l = KeepsPeers g.W.Stream.Stream.has_given g.W.Stream.Stream.has_got l.initial.self.links.peers l.self.links.peers

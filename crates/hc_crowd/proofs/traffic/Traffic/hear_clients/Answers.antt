@@ -1,4 +1,4 @@
-use Rattle.hc_crowd.proofs.KeepingLemmas.{keeps_then}
+use Rattle.hc_attended.proofs.KeepingLemmas.{keeps_then}
 use Rattle.hc_crowd.proofs.traffic.Traffic.hear_clients.Goals as goal
 
 pub clients-preserved : goal.clients-preserved

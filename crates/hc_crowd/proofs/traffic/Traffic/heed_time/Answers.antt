@@ -1,4 +1,4 @@
-use Rattle.hc_crowd.proofs.KeepingLemmas.{keeps_then}
+use Rattle.hc_attended.proofs.KeepingLemmas.{keeps_then}
 use Rattle.hc_crowd.proofs.traffic.Traffic.heed_time.Goals as goal
 
 pub returns-then-self-until : goal.returns-then-self-until

@@ -1,6 +1,6 @@
 use Rattle.std.proofs.Common.{ℕ, subst}
 use Rattle.hc_agenda.specs.Loads.{TakesHeaviest}
-use Rattle.hc_crowd.proofs.KeepingLemmas.{keeps_then}
+use Rattle.hc_attended.proofs.KeepingLemmas.{keeps_then}
 use Rattle.hc_crowd.proofs.LighteningLemmas.{one_more}
 use Rattle.hc_crowd.proofs.traffic.Traffic.lighten.Goals as goal
 

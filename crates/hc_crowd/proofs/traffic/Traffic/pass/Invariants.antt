@@ -3,4 +3,4 @@ use Rattle.hc_crowd.proofs.traffic.Traffic.pass.Given as goal
 
 -- what was told so far is told still, and nothing was written
 abbrev pub invariant-due : goal.invariant-due
-invariant-due g l = KeepsPeers g.W.Stream.Stream.has_given g.W.Stream.Stream.has_got l.initial.self.peers l.self.peers
+invariant-due g l = KeepsPeers g.W.Stream.Stream.has_given g.W.Stream.Stream.has_got l.initial.self.links.peers l.self.links.peers

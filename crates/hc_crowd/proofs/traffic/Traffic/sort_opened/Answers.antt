@@ -1,8 +1,11 @@
-use Rattle.hc_crowd.proofs.KeepingLemmas.{keeps_then}
+use Rattle.std.proofs.Common.{◌∙◌, sym}
+use Rattle.hc_agenda.specs.Places.{opened_in}
+use Rattle.hc_crowd.proofs.PlacesLemmas.{none_left}
+use Rattle.hc_attended.proofs.KeepingLemmas.{keeps_then}
 use Rattle.hc_crowd.proofs.traffic.Traffic.sort_opened.Goals as goal
 
-pub returns-in_default : goal.returns-in_default
-returns-in_default g c = record { kept = keeps_then c.opened.invariant c.next_opened.ensures.kept }
-
 pub opened-preserved : goal.opened-preserved
-opened-preserved g c = keeps_then (keeps_then c.opened.invariant c.next_opened.ensures.kept) c.sort.ensures.kept
+opened-preserved g c = keeps_then c.opened.invariant c.sort.ensures.kept
+
+pub returns-clause-sorted : goal.returns-clause-sorted
+returns-clause-sorted g c = none_left (opened_in c.opened.self.links.peers.places) (sym c.first_opened.ensures ∙ c.in_default.is)

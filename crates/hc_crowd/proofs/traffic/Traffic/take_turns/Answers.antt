@@ -1,5 +1,5 @@
 use Rattle.std.proofs.lemmas.Result.{err_from_is_err_and}
-use Rattle.hc_crowd.proofs.KeepingLemmas.{keeps_then, then_hears, hears_nothing, hears_refused, keeps_nothing, keeps_refused}
+use Rattle.hc_attended.proofs.KeepingLemmas.{keeps_then, then_hears, hears_nothing, hears_refused, keeps_nothing, keeps_refused}
 use Rattle.hc_crowd.proofs.traffic.Traffic.take_turns.Goals as goal
 
 pub returns-in_default-clause-heard : goal.returns-in_default-clause-heard

@@ -5,13 +5,13 @@ use Rattle.hc_link_traits.specs.declared.happened.Happened.{Happened}
 use Rattle.hc_peers.specs.Keeping.{Hears}
 use Rattle.hc_peers.specs.Known.{is_cut_at}
 use Rattle.hc_crowd.specs.Courses.{EndsUnbegun, FailsAt}
-use Rattle.hc_crowd.proofs.KeepingLemmas.{hears_at_once, hears_by_answer}
+use Rattle.hc_attended.proofs.KeepingLemmas.{hears_at_once, hears_by_answer}
 use Rattle.hc_crowd.proofs.TurnLemmas.{client_ends, forward_ends}
 use Rattle.hc_crowd.proofs.traffic.Traffic.turn.Goals as goal
 
 pub returns-in_ok-heard-in-Client-clause-heard : goal.returns-in_ok-heard-in-Client-clause-heard
 returns-in_ok-heard-in-Client-clause-heard g c =
-    subst (λ (r : Result (Option Happened) AllocError). Hears g.W.Stream.Stream.has_given g.W.Stream.Stream.has_got (g.A.Awaiting.awaited c.args.cache.now) r c.args.self.now.peers c.client_turn.new.self.peers)
+    subst (λ (r : Result (Option Happened) AllocError). Hears g.W.Stream.Stream.has_given g.W.Stream.Stream.has_got (g.A.Awaiting.awaited c.args.cache.now) r c.args.self.now.links.peers c.client_turn.new.self.links.peers)
     (sym c.happened.ensures) (hears_by_answer c.awaits-awaited.ensures c.in_ok-heard-in-Client.ensures.heard)
 
 pub returns-in_err-heard-in-Client-clause-heard : goal.returns-in_err-heard-in-Client-clause-heard
@@ -21,7 +21,7 @@ returns-in_err-heard-in-Client-clause-heard g c =
 
 pub returns-in_ok-heard-in-Origin-clause-heard : goal.returns-in_ok-heard-in-Origin-clause-heard
 returns-in_ok-heard-in-Origin-clause-heard g c =
-    subst (λ (r : Result (Option Happened) AllocError). Hears g.W.Stream.Stream.has_given g.W.Stream.Stream.has_got (g.A.Awaiting.awaited c.args.cache.now) r c.args.self.now.peers c.origin_turn.new.self.peers)
+    subst (λ (r : Result (Option Happened) AllocError). Hears g.W.Stream.Stream.has_given g.W.Stream.Stream.has_got (g.A.Awaiting.awaited c.args.cache.now) r c.args.self.now.links.peers c.origin_turn.new.self.links.peers)
     (sym c.happened-in-Origin.ensures) (hears_at_once c.in_ok-heard-in-Origin.ensures.heard)
 
 pub returns-in_err-heard-in-Origin-clause-heard : goal.returns-in_err-heard-in-Origin-clause-heard
@@ -34,8 +34,8 @@ returns-in_ok-heard-in-Client-clause-unbegun g c =
     let holds = g.A.Awaiting.holds c.args.cache.now in
     let heard = c.in_ok-heard-in-Client.ensures.reason in
     subst (λ (r : Result (Option Happened) AllocError). EndsUnbegun holds r) (sym c.happened.ensures)
-    (client_ends holds c.in-Client.number heard.0 (is_cut_at c.in-Client.number c.args.self.now.peers.clients.links)
-    (FailsAt g.W.Stream.Stream.has_failed c.in-Client.number c.args.self.now.peers c.client_turn.new.self.peers)
+    (client_ends holds c.in-Client.number heard.0 (is_cut_at c.in-Client.number c.args.self.now.links.peers.clients.links)
+    (FailsAt g.W.Stream.Stream.has_failed c.in-Client.number c.args.self.now.links.peers c.client_turn.new.self.links.peers)
     c.held-begun.result (Ok c.in_ok-heard-in-Client.heard) c.held-begun.ensures heard.1.unless_begun heard.4)
 
 pub returns-in_err-heard-in-Client-clause-unbegun : goal.returns-in_err-heard-in-Client-clause-unbegun

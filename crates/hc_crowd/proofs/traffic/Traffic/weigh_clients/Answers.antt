@@ -8,7 +8,7 @@ use Rattle.hc_crowd.proofs.traffic.Traffic.weigh_clients.Goals as goal
 pub clients-preserved : goal.clients-preserved
 clients-preserved g c = λ after adds.
     let holds = g.A.Awaiting.holds c.args.cache.now in
-    let peers = c.args.self.now.peers in
+    let peers = c.args.self.now.links.peers in
     let n = c.in-Some.number.now in
     let rest = c.next.new.self in
     let weighed_now = c.in_ok-weigh.ensures in

@@ -6,5 +6,5 @@ use Rattle.hc_crowd.proofs.traffic.Traffic.weigh_clients.Given as goal
 -- what those that are left add is what all of them add
 abbrev pub invariant-clients : goal.invariant-clients
 invariant-clients g l = (after : List Load)
-    → AddsLoads (g.A.Awaiting.holds l.cache) l.self.peers (weighed_clients l.number-iterator) l.reckoning.loads.items after
-    → AddsLoads (g.A.Awaiting.holds l.cache) l.self.peers (weighed_clients l.self.peers.clients.links.entries) l.initial.reckoning.loads.items after
+    → AddsLoads (g.A.Awaiting.holds l.cache) l.self.links.peers (weighed_clients l.number-iterator) l.reckoning.loads.items after
+    → AddsLoads (g.A.Awaiting.holds l.cache) l.self.links.peers (weighed_clients l.self.links.peers.clients.links.entries) l.initial.reckoning.loads.items after

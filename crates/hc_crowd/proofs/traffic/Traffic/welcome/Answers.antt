@@ -1,5 +1,5 @@
 use Rattle.std.proofs.lemmas.Result.{err_from_is_err_and}
-use Rattle.hc_crowd.proofs.KeepingLemmas.{keeps_within, within_then, then_hears_within, hears_nothing_within, hears_refused_within, within_nothing, within_refused}
+use Rattle.hc_attended.proofs.KeepingLemmas.{keeps_within, within_then, then_hears_within, hears_nothing_within, hears_refused_within, within_nothing, within_refused}
 use Rattle.hc_crowd.proofs.traffic.Traffic.welcome.Goals as goal
 
 pub returns-in_default : goal.returns-in_default

@@ -1,0 +1,17 @@
+pub mod AttendedLemmas
+pub mod ClientLemmas
+pub mod FirstLemmas
+pub mod ForwardLemmas
+pub mod GuestLemmas
+pub mod KeepingLemmas
+pub mod LaterLemmas
+pub mod LineLemmas
+pub mod LingeringLemmas
+pub mod NoteLemmas
+pub mod OwingLemmas
+pub mod SettledLemmas
+pub mod StepLemmas
+pub mod StillLemmas
+pub mod TailLemmas
+pub mod TendLemmas
+pub mod TimedLemmas

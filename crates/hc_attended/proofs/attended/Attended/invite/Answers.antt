@@ -1,0 +1,8 @@
+use Rattle.hc_attended.proofs.GuestLemmas.{guest_due}
+use Rattle.hc_attended.proofs.attended.Attended.invite.Goals as goal
+
+pub invariant_of-self-2 : goal.invariant_of-self-2
+invariant_of-self-2 g c =
+    let s = c.args.self.now in record {
+      noted = guest_due s.times s.time.tick s.peers c.invite.new.self s.agenda c.note.new.self c.args.guest c.due_behind-due.result (c.invite.ensures.rest, c.invite.ensures.others) c.note.ensures c.due_behind-due.ensures s.noted;
+    }

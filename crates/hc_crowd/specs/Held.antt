@@ -1,0 +1,35 @@
+-- How much is held of what came, and of what was sent.
+use Rattle.std.specs.Prelude.{◌≡◌, ◌⊎◌, ◌+◌, ◌-◌, ◌^◌, ℕ, length, min, Option, Some, None, Result, Ok, Err}
+use Rattle.std.specs.declared.alloc.AllocError.{AllocError}
+use Rattle.hc_agenda.specs.declared.holding.Holding.{Holding}
+use Rattle.hc_agenda.specs.Loads.{most_held}
+use Rattle.hc_events.specs.declared.Happening.{Happening}
+use Rattle.hc_events.specs.declared.Happening.TheVariants.{ClientBytes, OriginBytes}
+use Rattle.hc_link_traits.specs.declared.happened.Happened.{Happened}
+use Rattle.hc_order.specs.declared.receiver.Receiver.{Receiver}
+use Rattle.hc_peers.specs.declared.peers.Peers.{Peers}
+use Rattle.hc_crowd.specs.Lightening.{IsBounded}
+
+-- so many octets more are held, as far as that can be counted
+abbrev pub grown_by : ℕ → Holding → Holding
+grown_by octets holding = record holding { grown = min (holding.grown + octets) (2 ^ 64 - 1) }
+
+-- how many octets came by what happened
+abbrev pub octets_of : Happening → ℕ
+octets_of (ClientBytes n octets) = length octets
+octets_of (OriginBytes f octets) = length octets
+octets_of other = 0
+
+-- the octets that came by what happens are held besides
+abbrev pub GrowsBy : Option Happened → Holding → Holding → Type 0
+GrowsBy None before after = after ≡ before
+GrowsBy (Some happened) before after = after ≡ grown_by (octets_of happened.of) before
+
+-- what is held is as before, or is what was left where each link was weighed
+abbrev pub HoldsAsWeighed : (S : Type 0) → (holds : Receiver → ℕ → Type 0) → (limit : ℕ) → Holding → Holding → Type 0
+HoldsAsWeighed S holds limit before after = (after ≡ before) ⊎ ((peers : Peers S) × (lightened : Peers S) × IsBounded holds limit (most_held after) peers lightened)
+
+-- and then the octets are held, too, that came by what happens next; where memory is refused, no more are than was weighed
+abbrev pub HoldsWhatCame : (S : Type 0) → (holds : Receiver → ℕ → Type 0) → (limit : ℕ) → Result (Option Happened) AllocError → Holding → Holding → Type 0
+HoldsWhatCame S holds limit (Ok happened) before after = (between : Holding) × HoldsAsWeighed S holds limit before between × GrowsBy happened between after
+HoldsWhatCame S holds limit (Err refused) before after = HoldsAsWeighed S holds limit before after
