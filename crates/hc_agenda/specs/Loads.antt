@@ -2,6 +2,7 @@
 use Rattle.std.specs.Prelude.{◌≡◌, ℕ, ◌+◌, ◌-◌, ◌/◌, ◌<◌, ◌≤◌, List, [], ◌∷◌, ◌++◌, Option, Some, None}
 use Rattle.std.specs.List.{All, sum_by}
 use Rattle.hc_agenda.specs.declared.holding.Holding.{Holding}
+use Rattle.hc_agenda.specs.declared.reckoning.Heaviest.{Heaviest}
 use Rattle.hc_agenda.specs.declared.reckoning.Load.{Load}
 
 -- so many octets are held for a link
@@ -13,9 +14,9 @@ abbrev pub total : List Load → ℕ
 total loads = sum_by weight loads
 
 -- where more than so many octets are held in all, a load is taken out than which none is heavier; else nothing is
-abbrev pub TakesHeaviest : ℕ → Option Load → (before after : List Load) → Type 0
+abbrev pub TakesHeaviest : ℕ → Option Heaviest → (before after : List Load) → Type 0
 TakesHeaviest most None before after = (total before ≤ most) × (after ≡ before)
-TakesHeaviest most (Some load) before after = (most < total before) × (before ≡ after ++ load ∷ []) × All (λ other. weight other ≤ weight load) after
+TakesHeaviest most (Some heaviest) before after = (most < total before) × (before ≡ after ++ heaviest.load ∷ []) × All (λ other. weight other ≤ weight heaviest.load) after
 
 -- no more than that is held, as far as is known: what was held for all links when each was looked at, and what came or was sent since
 abbrev pub most_held : Holding → ℕ

@@ -16,6 +16,22 @@ pub struct Load {
     pub link: Receiver,
 }
 
+/// A load than which none was heavier, where more was held than may be. A ranking alone gives one: so no other link is cut off
+/// since too much is held.
+#[derive(Drop)]
+pub struct Heaviest {
+    load: Load,
+}
+
+impl Heaviest {
+    /// The link for which so much is held.
+    pub fn link(&self) -> Receiver
+        ensures { result ≡ self.now.load.link }
+    {
+        self.load.link
+    }
+}
+
 /// What is held for each of some links, and in all.
 #[derive(Drop)]
 pub struct Reckoning {
@@ -78,7 +94,7 @@ impl Ranking {
     }
 
     /// Where more than so many octets are held in all, takes out a load than which none is heavier.
-    pub fn take_heaviest(&mut self, most: u64) -> Option<Load>
+    pub fn take_heaviest(&mut self, most: u64) -> Option<Heaviest>
         ensures takes { TakesHeaviest most result self.old.loads.items self.new.loads.items }
         ensures fewer { OnSome result (vec_len self.new.loads + 1 ≡ vec_len self.old.loads) }
     {
@@ -87,6 +103,6 @@ impl Ranking {
         }
         let load = self.loads.pop()?;
         self.sum -= load.octets;
-        Some(load)
+        Some(Heaviest { load })
     }
 }

@@ -2,12 +2,14 @@ pub mod AttendedLemmas
 pub mod ClientLemmas
 pub mod FirstLemmas
 pub mod ForwardLemmas
+pub mod GroundLemmas
 pub mod GuestLemmas
 pub mod KeepingLemmas
 pub mod LaterLemmas
 pub mod LineLemmas
 pub mod LingeringLemmas
 pub mod NoteLemmas
+pub mod NumberLemmas
 pub mod OwingLemmas
 pub mod SettledLemmas
 pub mod StepLemmas
@@ -15,3 +17,4 @@ pub mod StillLemmas
 pub mod TailLemmas
 pub mod TendLemmas
 pub mod TimedLemmas
+pub mod WorldLemmas

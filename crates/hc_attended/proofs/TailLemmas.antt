@@ -1,22 +1,35 @@
 -- A client whose connection is closed keeps what is owed to it.
-use Rattle.std.proofs.Common.{◌≡◌, ◌⊎◌, ◌∙◌, Bool, true, false, Option, Some, None, Result, Ok, Err, IsErr, inl, inr, refl, sym, subst, true≢false}
+use Rattle.std.proofs.Common.{◌≡◌, ◌⊎◌, ◌∙◌, ℕ, Bool, true, false, Option, Some, None, Result, Ok, Err, IsErr, inl, inr, option_map, refl, ap, sym, subst, true≢false}
+use Rattle.std.specs.BTreeMap.{get}
+use Rattle.std.specs.Ordering.{nat_cmp}
 use Rattle.std.specs.declared.alloc.AllocError.{AllocError}
 use Rattle.hc_flow.specs.Hearings.{HasFailed}
 use Rattle.hc_flow.specs.declared.flow.Flow.{Flow}
 use Rattle.hc_flow.specs.declared.heard.Heard.{Heard}
 use Rattle.hc_peers.specs.Hearings.{ClientFailsOnly}
 use Rattle.hc_peers.specs.declared.client.Client.{Client}
+use Rattle.hc_peers.specs.declared.peers.Peers.{Peers}
+use Rattle.hc_peers.specs.Behind.{Behind, ClientIsDropped}
+use Rattle.hc_peers.specs.Known.{known_at, unqueued}
 use Rattle.hc_attended.specs.Tails.{KeepsTail, LetsGo}
 
 module _ {S : Type 0} (has_failed : S → Type 0) where
   -- nothing of it has failed but by its stream, and then it has gone perhaps
-  pub tail_kept : (before between after : Option (Client S)) → ClientFailsOnly has_failed ⊥ before between → LetsGo between after → KeepsTail has_failed before after
-  tail_kept None None after fails (inl same) = same
-  tail_kept None None after fails (inr gone) = gone.0
-  tail_kept None (Some between) after fails goes = absurd fails
-  tail_kept (Some before) None after fails goes = absurd fails
-  tail_kept (Some before) (Some between) after fails (inl same) = subst (KeepsTail has_failed (Some before)) (sym same) fails
-  tail_kept (Some before) (Some between) after fails (inr gone) = subst (KeepsTail has_failed (Some before)) (sym gone.0) (between, fails, gone.1)
+  kept_so : (over : Bool) (before between after : Option (Client S)) → Behind (ClientIsDropped over) before between → ClientFailsOnly has_failed ⊥ (option_map unqueued before) (option_map unqueued between)
+      → LetsGo (option_map unqueued between) after → KeepsTail has_failed (option_map unqueued before) after
+  kept_so over None None after dropped fails (inl same) = same
+  kept_so over None None after dropped fails (inr gone) = gone.0
+  kept_so over None (Some between) after dropped fails goes = absurd fails
+  kept_so over (Some before) None after dropped fails goes = absurd fails
+  kept_so over (Some before) (Some between) after dropped fails (inl same) = subst (KeepsTail has_failed (Some (unqueued before))) (sym same) fails
+  kept_so over (Some before) (Some between) after dropped fails (inr gone) =
+      subst (KeepsTail has_failed (Some (unqueued before))) (sym gone.0)
+      (unqueued between, record { closed = ap (λ (client : Client S). client.closed) dropped.rest; fails = fails; waits = dropped.waits }, gone.1)
+
+  pub tail_kept : (n : ℕ) (over : Bool) (before between : Peers S) (after : Option (Client S)) → Behind (ClientIsDropped over) (get nat_cmp before.clients.links n) (get nat_cmp between.clients.links n)
+      → ClientFailsOnly has_failed ⊥ (known_at n before.clients.links) (known_at n between.clients.links) → LetsGo (known_at n between.clients.links) after
+      → KeepsTail has_failed (known_at n before.clients.links) after
+  tail_kept n over before between after dropped fails goes = kept_so over (get nat_cmp before.clients.links n) (get nat_cmp between.clients.links n) after dropped fails goes
 
   abbrev heard_well : Heard → Result Heard AllocError
   heard_well heard = Ok heard

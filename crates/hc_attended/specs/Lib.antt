@@ -1,4 +1,6 @@
+pub mod Abandoning
 pub mod Attended
+pub mod Grounds
 pub mod Notes
 pub mod Overdue
 pub mod Settled

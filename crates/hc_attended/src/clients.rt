@@ -7,11 +7,11 @@ ghost use Rattle.hc_agenda.specs.Due.{same_timeout};
 ghost use Rattle.hc_agenda.specs.declared.agenda.Agenda.{Agenda};
 ghost use Rattle.hc_agenda.specs.declared.deadline.Timeout.TheVariants as timeouts;
 ghost use Rattle.hc_attended.specs.Notes.{KeepsNotes, due_of, no_link};
-ghost use Rattle.hc_attended.specs.Tending.{IsClientTimed, TendsClient};
+ghost use Rattle.hc_attended.specs.Tending.{IsClientTimed, TendsClient, TurnsOnly};
 ghost use Rattle.hc_attended.specs.declared.times.Times.{Times};
 ghost use Rattle.hc_peers.specs.Clients.{may_go};
 ghost use Rattle.hc_peers.specs.Keeping.{KeepsPeers};
-ghost use Rattle.hc_peers.specs.Known.{known_at};
+ghost use Rattle.hc_peers.specs.Known.{KeepsKnown, known_at};
 ghost use Rattle.hc_peers.specs.Tables.{is_there_and};
 ghost use Rattle.hc_attended.specs.Tails.{KeepsTail, LetsGo};
 
@@ -36,10 +36,12 @@ impl<W: World> Attended<W> {
     ghost use Rattle.hc_peers.specs.Hearings.{ClientFailsOnly, HasFailedAt, IsHeardFor, IsToldAtOnce};
     ghost use Rattle.hc_peers.specs.Keeping.{Hears};
     ghost use Rattle.hc_peers.specs.Known.{is_cut_at, is_open_at};
-    ghost use Rattle.hc_peers.specs.Peers.{ArePeers, Bounds, ChangesOnly, IsNext, MayOpen};
+    ghost use Rattle.hc_peers.specs.Peers.{ArePeers, Bounds, IsNext, MayOpen};
     ghost use Rattle.hc_peers.specs.Peers.Bounds.{AtMost};
     ghost use Rattle.hc_peers.specs.Shown.{ShowNoMore};
     ghost use Rattle.hc_peers.specs.Telling.{KeepsOpened};
+    ghost use Rattle.hc_attended.specs.Grounds.{MayEnd};
+    ghost use Rattle.hc_attended.specs.Tending.{ChangesClient};
 
     /// A client has opened the connection of the next number, where fewer than so many are open, and it was a guest before.
     /// It has a turn before all others, in this batch. Where memory is refused, its link is closed, and the number isn't
@@ -54,6 +56,7 @@ impl<W: World> Attended<W> {
             → MayHappen most (ClientOpened number) log }
         ensures shown { W.Stream.has_got stream [] → (log : List Move) → ShowNoMore W.Stream.has_got self.old.peers log
             → ShowNoMore W.Stream.has_got self.new.peers log }
+        ensures only { ChangesClient number self.old.peers self.new.peers }
     {
         self.peers.open(number, stream, most, self.time.tick)?;
         self.agenda.give_turn_now(Receiver::Client(number));
@@ -69,7 +72,10 @@ impl<W: World> Attended<W> {
 
     /// Takes in what the system tells of a client's link.
     pub fn learn_of_client(&mut self, number: u64, readiness: Readiness)
+        requires told { W.tells_of (Client number) readiness ≡ true }
         ensures kept { KeepsPeers W.Stream.has_given W.Stream.has_got self.old.peers self.new.peers }
+        ensures fails { ClientFailsOnly W.Stream.has_failed (readiness.failed ≡ true) (known_at number self.old.peers.clients.links) (known_at number self.new.peers.clients.links) }
+        ensures only { ChangesClient number self.old.peers self.new.peers }
     {
         learn(
             &mut self.peers,
@@ -86,6 +92,9 @@ impl<W: World> Attended<W> {
         ensures tells { (bounds : Bounds) (log : List Move) → ArePeers W.Stream.has_given W.Stream.has_got bounds self.old.peers log
             → ArePeers W.Stream.has_given W.Stream.has_got bounds self.new.peers (Closed (Client number) ∷ log) }
         ensures shown { (log : List Move) → ShowNoMore W.Stream.has_got self.old.peers log → ShowNoMore W.Stream.has_got self.new.peers log }
+        // What is owed stays owed.
+        ensures fails { ClientFailsOnly W.Stream.has_failed ⊥ (known_at number self.old.peers.clients.links) (known_at number self.new.peers.clients.links) }
+        ensures only { ChangesClient number self.old.peers self.new.peers }
     {
         self.peers.close_client(number);
         see_to_client(&mut self.peers, &mut self.agenda, number, self.time.tick);
@@ -100,11 +109,13 @@ impl<W: World> Attended<W> {
     ) -> Result<Heard, AllocError>
         requires turn { IsFirstTurn (Some (Client number)) self.old.agenda.turns }
         requires now { hearing.tick ≡ self.old.time.tick }
+        requires grounds { MayEnd W.stop_asked self.old.times.patience self.old.time.tick self.old.peers number hearing }
         ensures heard { Hears W.Stream.has_given W.Stream.has_got (IsAnswerOf number hearing.awaited) (told (Client number) result) self.old.peers self.new.peers }
         ensures reason { IsHeardFor hearing (is_cut_at number self.old.peers.clients.links)
             (HasFailedAt W.Stream.has_failed (known_at number self.old.peers.clients.links) (known_at number self.new.peers.clients.links)) result }
         ensures at_once { is_open_at number self.old.peers.clients.links ≡ true → IsToldAtOnce (is_cut_at number self.old.peers.clients.links) hearing.late result }
         ensures fails { ClientFailsOnly W.Stream.has_failed ((hearing.late ≡ true) ⊎ IsErr result) (known_at number self.old.peers.clients.links) (known_at number self.new.peers.clients.links) }
+        ensures only { ChangesClient number self.old.peers self.new.peers }
     {
         begin_turn(&mut self.peers, &mut self.agenda, Receiver::Client(number));
         let heard = self.peers.hear_client(number, buffer, hearing);
@@ -114,13 +125,15 @@ impl<W: World> Attended<W> {
 
     /// Drops what a client whose connection is closed still sends, and whose turn it is; and then its link, once nothing more
     /// comes and all that was owed to it was written or is lost. Where its time is over, that is lost.
-    pub fn drop_rest_of_client(&mut self, number: u64, buffer: &mut [u8], late: bool)
+    pub fn drop_rest_of_client(&mut self, number: u64, buffer: &mut [u8], hearing: Hearing)
         requires turn { IsFirstTurn (Some (Client number)) self.old.agenda.turns }
+        requires grounds { MayEnd W.stop_asked self.old.times.patience self.old.time.tick self.old.peers number hearing }
         ensures kept { KeepsPeers W.Stream.has_given W.Stream.has_got self.old.peers self.new.peers }
-        ensures tail { late ≡ false → KeepsTail W.Stream.has_failed (known_at number self.old.peers.clients.links) (known_at number self.new.peers.clients.links) }
+        ensures tail { hearing.late ≡ false → KeepsTail W.Stream.has_failed (known_at number self.old.peers.clients.links) (known_at number self.new.peers.clients.links) }
+        ensures only { ChangesClient number self.old.peers self.new.peers }
     {
         begin_turn(&mut self.peers, &mut self.agenda, Receiver::Client(number));
-        lose_late(&mut self.peers, number, late);
+        lose_late(&mut self.peers, number, hearing.late);
         if drop_rest(&mut self.peers, &mut self.agenda, number, buffer) {
             self.freed = true;
         }
@@ -132,6 +145,7 @@ impl<W: World> Attended<W> {
     pub fn let_go(&mut self, number: u64)
         ensures kept { KeepsPeers W.Stream.has_given W.Stream.has_got self.old.peers self.new.peers }
         ensures goes { LetsGo (known_at number self.old.peers.clients.links) (known_at number self.new.peers.clients.links) }
+        ensures only { ChangesClient number self.old.peers self.new.peers }
     {
         if let_go(&mut self.peers, &mut self.agenda, number) {
             self.freed = true;
@@ -144,6 +158,8 @@ impl<W: World> Attended<W> {
     /// Any other is looked at again.
     pub fn look_at_client(&mut self, number: u64)
         ensures kept { KeepsPeers W.Stream.has_given W.Stream.has_got self.old.peers self.new.peers }
+        ensures known { KeepsKnown self.old.peers.clients.links self.new.peers.clients.links }
+        ensures turns { TurnsOnly (Client number) self.old.peers self.new.peers }
     {
         let patience = self.times.patience;
         if self.peers.is_overdue(number, self.time.tick, patience) {
@@ -159,16 +175,6 @@ impl<W: World> Attended<W> {
                 self.times,
             );
         }
-    }
-
-    /// A client is cut off, since so much is held: what is owed to it is lost, and its end is heard before all else.
-    pub fn cut_off(&mut self, number: u64)
-        ensures kept { KeepsPeers W.Stream.has_given W.Stream.has_got self.old.peers self.new.peers }
-        ensures only { ChangesOnly (Client number) self.old.peers self.new.peers }
-    {
-        self.peers.cut_off(number);
-        self.peers.queue(Receiver::Client(number));
-        self.agenda.give_turn_now(Receiver::Client(number));
     }
 }
 

@@ -7,14 +7,16 @@ ghost use Rattle.hc_agenda.specs.Agendas.{owed_in};
 ghost use Rattle.hc_agenda.specs.Deadlines.{is_of_forward};
 ghost use Rattle.hc_agenda.specs.Due.{same_timeout};
 ghost use Rattle.hc_agenda.specs.declared.deadline.Timeout.TheVariants as timeouts;
+ghost use Rattle.hc_attended.specs.Grounds.{KeepsAllBut, KeepsServed};
 ghost use Rattle.hc_attended.specs.Notes.{KeepsNotes, due_of, is_due_up_to, no_deadline, no_link};
 ghost use Rattle.hc_attended.specs.Overdue.{progress_of};
 ghost use Rattle.hc_attended.specs.Tending.{IsForwardInTime, IsForwardMarked, IsForwardSeenTo, IsForwardWatched};
 ghost use Rattle.hc_attended.specs.declared.times.Times.{Times};
 ghost use Rattle.hc_order.specs.declared.receiver.Receiver.TheVariants.{Origin};
-ghost use Rattle.hc_peers.specs.Forwards.{is_opening_at, is_waiting_at, lost_at};
+ghost use Rattle.hc_peers.specs.Forwards.{is_opening_at, is_waiting_at, lost_at, turned};
+ghost use Rattle.hc_peers.specs.declared.forward.Reaching.TheVariants.{Lost};
 ghost use Rattle.hc_peers.specs.Keeping.{KeepsPeers};
-ghost use Rattle.hc_peers.specs.Peers.{ChangesOnly};
+ghost use Rattle.hc_peers.specs.Peers.{ChangesOnly, FailsOnlyAt, is_failed_by};
 
 use crate::attended::Attended;
 use crate::lingering::free_place;
@@ -37,12 +39,15 @@ impl<W: World> Attended<W> {
     ghost use Rattle.hc_peers.specs.Heard.{NoAnswer, told};
     ghost use Rattle.hc_peers.specs.Keeping.{Hears};
     ghost use Rattle.hc_peers.specs.Lingering.{is_lingering};
-    ghost use Rattle.hc_peers.specs.Losses.{IsLossOf};
+    ghost use Rattle.hc_peers.specs.Losses.{HearsAt, IsLossOf};
     ghost use Rattle.hc_attended.specs.Overdue.{is_forward_overdue};
 
     /// Takes in what the system tells of a forward's link.
     pub fn learn_of_forward(&mut self, forward: u64, readiness: Readiness)
+        requires told { W.tells_of (Origin forward) readiness ≡ true }
         ensures kept { KeepsPeers W.Stream.has_given W.Stream.has_got self.old.peers self.new.peers }
+        ensures fails { FailsOnlyAt W.Stream.has_failed (is_failed_by readiness (Origin forward) self.old.peers ≡ true) (Origin forward) self.old.peers self.new.peers }
+        ensures only { ChangesOnly (Origin forward) self.old.peers self.new.peers }
     {
         learn(
             &mut self.peers,
@@ -67,6 +72,7 @@ impl<W: World> Attended<W> {
         ensures first { TakesForward (first_in (opened_in self.old.peers.places)) (opened_in self.old.peers.places) (opened_in self.new.peers.places) }
         ensures kept { KeepsPeers W.Stream.has_given W.Stream.has_got self.old.peers self.new.peers }
         ensures late { (forward : ℕ) → lost_at forward self.new.peers.forwards.links ≡ Some Late → lost_at forward self.old.peers.forwards.links ≡ Some Late }
+        ensures others { IfSome (first_in (opened_in self.old.peers.places)) (λ forward. KeepsAllBut forward self.old.peers self.new.peers) }
     {
         let Some(forward) = self.peers.next_opened() else {
             return true;
@@ -80,10 +86,12 @@ impl<W: World> Attended<W> {
         true
     }
 
-    /// The first of the forwards that were opened fails, since there is no time for it any more.
+    /// The first of the forwards that were opened fails, since there is no time for it any more behind a stop.
     pub fn lose_opened(&mut self)
+        requires grounds { W.stop_asked ≡ true }
         ensures first { TakesForward (first_in (opened_in self.old.peers.places)) (opened_in self.old.peers.places) (opened_in self.new.peers.places) }
         ensures kept { KeepsPeers W.Stream.has_given W.Stream.has_got self.old.peers self.new.peers }
+        ensures others { IfSome (first_in (opened_in self.old.peers.places)) (λ forward. KeepsAllBut forward self.old.peers self.new.peers) }
     {
         if let Some(forward) = self.peers.next_opened() {
             lose(&mut self.peers, &mut self.agenda, forward, Reason::Late);
@@ -97,6 +105,7 @@ impl<W: World> Attended<W> {
         ensures kept { KeepsPeers W.Stream.has_given W.Stream.has_got self.old.peers self.new.peers }
         ensures fewer { count_waiting self.new.peers.places + 1 ≡ count_waiting self.old.peers.places }
         ensures opened { opened_in self.new.peers.places ≡ opened_in self.old.peers.places }
+        ensures served { KeepsServed self.old.peers self.new.peers }
     {
         self.peers.next_candidate();
     }
@@ -109,6 +118,7 @@ impl<W: World> Attended<W> {
         ensures kept { IfSome stream (λ fresh. W.Stream.has_given fresh [] × W.Stream.has_got fresh []) → KeepsPeers W.Stream.has_given W.Stream.has_got self.old.peers self.new.peers }
         ensures fewer { count_waiting self.new.peers.places + 1 ≡ count_waiting self.old.peers.places }
         ensures opened { opened_in self.new.peers.places ≡ opened_in self.old.peers.places }
+        ensures others { KeepsAllBut candidate.forward self.old.peers self.new.peers }
     {
         let forward = candidate.forward;
         self.peers.next_candidate();
@@ -136,6 +146,7 @@ impl<W: World> Attended<W> {
         requires may { can_retry forward self.old.peers ≡ true }
         requires apart { is_lingering forward self.old.peers.lingering ≡ false }
         ensures kept { KeepsPeers W.Stream.has_given W.Stream.has_got self.old.peers self.new.peers }
+        ensures others { KeepsAllBut forward self.old.peers self.new.peers }
     {
         begin_turn(&mut self.peers, &mut self.agenda, Receiver::Origin(forward));
         self.peers.retry(forward);
@@ -159,6 +170,9 @@ impl<W: World> Attended<W> {
         requires apart { is_lingering forward self.old.peers.lingering ≡ false }
         ensures heard { Hears W.Stream.has_given W.Stream.has_got NoAnswer (told (Origin forward) result) self.old.peers self.new.peers }
         ensures reason { IsLossOf (get nat_cmp self.old.peers.forwards.links forward) result }
+        // One that is not lost is reached as far as before.
+        ensures stays { HearsAt W.Stream.has_failed (get nat_cmp self.old.peers.forwards.links forward) (get nat_cmp self.new.peers.forwards.links forward) result }
+        ensures others { KeepsAllBut forward self.old.peers self.new.peers }
     {
         begin_turn(&mut self.peers, &mut self.agenda, Receiver::Origin(forward));
         let heard = self.peers.hear_origin(forward, buffer, self.time.tick);
@@ -168,27 +182,22 @@ impl<W: World> Attended<W> {
         heard
     }
 
-    /// A forward has no link any more, which is told in its turn.
-    pub fn lose_origin(&mut self, forward: u64, reason: Reason)
+    /// A forward fails, since there is no time for it any more behind a stop. That is told in its turn.
+    pub fn lose_late(&mut self, forward: u64)
+        requires grounds { W.stop_asked ≡ true }
         ensures kept { KeepsPeers W.Stream.has_given W.Stream.has_got self.old.peers self.new.peers }
-        ensures lost { lost_at forward self.new.peers.forwards.links ≡ option_map (λ _. reason) (get nat_cmp self.old.peers.forwards.links forward) }
+        ensures lost { lost_at forward self.new.peers.forwards.links ≡ option_map (λ _. Late) (get nat_cmp self.old.peers.forwards.links forward) }
         ensures only { ChangesOnly (Origin forward) self.old.peers self.new.peers }
     {
-        lose(&mut self.peers, &mut self.agenda, forward, reason);
-    }
-
-    /// The same, before all others in this batch.
-    pub fn lose_origin_now(&mut self, forward: u64, reason: Reason)
-        ensures kept { KeepsPeers W.Stream.has_given W.Stream.has_got self.old.peers self.new.peers }
-        ensures only { ChangesOnly (Origin forward) self.old.peers self.new.peers }
-    {
-        lose_now(&mut self.peers, &mut self.agenda, forward, reason);
+        lose(&mut self.peers, &mut self.agenda, forward, Reason::Late);
     }
 
     /// The time that a forward may wait for a place is over: one fails that waits still. Returns whether it does.
     pub fn end_waiting(&mut self, forward: u64) -> bool
+        requires due { is_due_up_to timeouts.Place forward self.old.time.tick self.old.agenda ≡ true }
         ensures kept { KeepsPeers W.Stream.has_given W.Stream.has_got self.old.peers self.new.peers }
         ensures only { (is_waiting_at forward self.old.peers.forwards.links ≡ true) ⊎ (self.new.peers ≡ self.old.peers) }
+        ensures others { KeepsAllBut forward self.old.peers self.new.peers }
     {
         self.agenda.forget(Timeout::Place, forward);
         if !is_waiting(&self.peers, forward) {
@@ -202,8 +211,10 @@ impl<W: World> Attended<W> {
     /// The time that a link may take to be made is over: a forward fails whose link isn't known to work. Returns whether it
     /// does.
     pub fn end_connect(&mut self, forward: u64) -> bool
+        requires due { is_due_up_to timeouts.Connect forward self.old.time.tick self.old.agenda ≡ true }
         ensures kept { KeepsPeers W.Stream.has_given W.Stream.has_got self.old.peers self.new.peers }
         ensures only { (is_opening_at forward self.old.peers.forwards.links ≡ true) ⊎ (self.new.peers ≡ self.old.peers) }
+        ensures others { KeepsAllBut forward self.old.peers self.new.peers }
     {
         self.agenda.forget(Timeout::Connect, forward);
         if !is_opening(&self.peers, forward) {
@@ -217,6 +228,7 @@ impl<W: World> Attended<W> {
     pub fn look_at_forward(&mut self, forward: u64) -> Option<Trouble>
         ensures kept { KeepsPeers W.Stream.has_given W.Stream.has_got self.old.peers self.new.peers }
         ensures only { (is_forward_overdue forward self.old.peers self.old.time.tick self.old.times.patience ≡ true) ⊎ (self.new.peers ≡ self.old.peers) }
+        ensures others { KeepsAllBut forward self.old.peers self.new.peers }
     {
         match self.trouble_by_time(forward) {
             Some(trouble) => {
@@ -282,7 +294,12 @@ fn link_or_lose<S: Stream + Drop>(
 }
 
 /// There is no link for a forward any more, or none could be made, which is told in its turn.
-fn lose<S: Stream + Drop>(peers: &mut Peers<S>, agenda: &mut Agenda, forward: u64, reason: Reason)
+pub(crate) fn lose<S: Stream + Drop>(
+    peers: &mut Peers<S>,
+    agenda: &mut Agenda,
+    forward: u64,
+    reason: Reason,
+)
     ensures kept { KeepsPeers S.has_given S.has_got peers.old peers.new }
     ensures only { ChangesOnly (Origin forward) peers.old peers.new }
     ensures absent { get nat_cmp peers.old.forwards.links forward ≡ None → get nat_cmp peers.new.forwards.links forward ≡ None }
@@ -296,7 +313,7 @@ fn lose<S: Stream + Drop>(peers: &mut Peers<S>, agenda: &mut Agenda, forward: u6
 }
 
 /// The same, before all others in this batch.
-fn lose_now<S: Stream + Drop>(
+pub(crate) fn lose_now<S: Stream + Drop>(
     peers: &mut Peers<S>,
     agenda: &mut Agenda,
     forward: u64,
@@ -305,6 +322,7 @@ fn lose_now<S: Stream + Drop>(
     ensures kept { KeepsPeers S.has_given S.has_got peers.old peers.new }
     ensures only { ChangesOnly (Origin forward) peers.old peers.new }
     ensures absent { get nat_cmp peers.old.forwards.links forward ≡ None → get nat_cmp peers.new.forwards.links forward ≡ None }
+    ensures lost { IfSome (option_map (turned false) (get nat_cmp peers.new.forwards.links forward)) (λ lost. lost.reaching ≡ Lost reason) }
     ensures notes { KeepsNotes no_link no_link no_deadline agenda.old agenda.new }
     ensures seen { agenda.new.refused ≡ false → IsForwardSeenTo forward peers.new agenda.new }
     ensures timed { (times : Times) (tick : ℕ) → IsForwardInTime forward times tick peers.new agenda.new }
@@ -326,6 +344,7 @@ fn learn<S: Stream + Drop>(
     ensures only { ChangesOnly (Origin forward) peers.old peers.new }
     ensures absent { get nat_cmp peers.old.forwards.links forward ≡ None → get nat_cmp peers.new.forwards.links forward ≡ None }
     ensures notes { KeepsNotes no_link no_link no_deadline agenda.old agenda.new }
+    ensures fails { FailsOnlyAt S.has_failed (is_failed_by readiness (Origin forward) peers.old ≡ true) (Origin forward) peers.old peers.new }
     ensures marked { agenda.new.refused ≡ false → IsForwardMarked forward peers.old agenda.old → IsForwardMarked forward peers.new agenda.new }
     ensures timed { (times : Times) (now : ℕ) → IsForwardInTime forward times now peers.old agenda.old → IsForwardInTime forward times now peers.new agenda.new }
 {

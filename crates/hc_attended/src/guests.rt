@@ -2,6 +2,7 @@
 
 ghost use Rattle.std.specs.Prelude.{◌≡◌, [], ℕ, List, IfSome};
 ghost use Rattle.hc_peers.specs.Keeping.{KeepsPeers};
+ghost use Rattle.hc_attended.specs.Grounds.{KeepsServed};
 
 use crate::attended::Attended;
 use crate::times::REFUSED_LINGERS;
@@ -17,12 +18,21 @@ impl<W: World> Attended<W> {
     ghost use Rattle.hc_peers.specs.Peers.{ArePeers, Bounds, HasRoom};
     ghost use Rattle.hc_peers.specs.Shown.{ShowNoMore};
 
+    /// A number for one who connects, as far as there are numbers: none is given twice.
+    pub fn next_guest(&mut self) -> Option<u64>
+        ensures kept { KeepsPeers W.Stream.has_given W.Stream.has_got self.old.peers self.new.peers }
+        ensures served { KeepsServed self.old.peers self.new.peers }
+    {
+        self.peers.next_guest()
+    }
+
     /// One has connected, and is a guest that knocks, and goes in time, where there are fewer links of clients and guests
     /// than that. Where memory is refused, its link is closed.
     pub fn invite(&mut self, guest: u64, stream: W::Stream, most: usize) -> Result<(), AllocError>
         requires fresh { W.Stream.has_given stream [] × W.Stream.has_got stream [] }
         requires room { HasRoom self.old.peers most }
         ensures kept { KeepsWithin W.Stream.has_given W.Stream.has_got most self.old.peers self.new.peers }
+        ensures served { KeepsServed self.old.peers self.new.peers }
     {
         let due = self.due_behind(self.times.patience.idle_timeout);
         self.peers.invite(guest, stream, most)?;
@@ -33,6 +43,7 @@ impl<W: World> Attended<W> {
     /// A guest knocks, if it is there.
     pub fn knock(&mut self, guest: u64)
         ensures kept { KeepsPeers W.Stream.has_given W.Stream.has_got self.old.peers self.new.peers }
+        ensures served { KeepsServed self.old.peers self.new.peers }
     {
         if self.peers.knock(guest).is_err() {
             self.agenda.note_refusal();
@@ -42,6 +53,7 @@ impl<W: World> Attended<W> {
     /// The guest that has knocked for longest, who knocks no more. It may have gone.
     pub fn next_knocking(&mut self) -> Option<u64>
         ensures kept { KeepsPeers W.Stream.has_given W.Stream.has_got self.old.peers self.new.peers }
+        ensures served { KeepsServed self.old.peers self.new.peers }
     {
         self.peers.next_knocking()
     }
@@ -52,6 +64,7 @@ impl<W: World> Attended<W> {
         ensures fresh { (bounds : Bounds) (log : List Move) → ArePeers W.Stream.has_given W.Stream.has_got bounds self.old.peers log
             → IfSome result (λ stream. W.Stream.has_given stream [] × W.Stream.has_got stream []) }
         ensures unwritten { (log : List Move) → ShowNoMore W.Stream.has_got self.old.peers log → IfSome result (λ stream. W.Stream.has_got stream []) }
+        ensures served { KeepsServed self.old.peers self.new.peers }
     {
         self.agenda.forget(Timeout::Guest, guest);
         self.freed = true;
@@ -61,6 +74,7 @@ impl<W: World> Attended<W> {
     /// The link of a guest is dropped.
     pub fn let_guest_go(&mut self, guest: u64)
         ensures kept { KeepsPeers W.Stream.has_given W.Stream.has_got self.old.peers self.new.peers }
+        ensures served { KeepsServed self.old.peers self.new.peers }
     {
         self.agenda.forget(Timeout::Guest, guest);
         self.freed = true;
@@ -70,6 +84,7 @@ impl<W: World> Attended<W> {
     /// The time of a guest is over: it goes, unless octets of it have come. Then it knocks, and has the same time again.
     pub fn end_guest(&mut self, guest: u64)
         ensures kept { KeepsPeers W.Stream.has_given W.Stream.has_got self.old.peers self.new.peers }
+        ensures served { KeepsServed self.old.peers self.new.peers }
     {
         match self.peers.guests.peek(guest) {
             Presence::Octets => self.put_off(guest),
@@ -81,6 +96,7 @@ impl<W: World> Attended<W> {
     /// A guest knocks, and has the time again that it had.
     fn put_off(&mut self, guest: u64)
         ensures kept { KeepsPeers W.Stream.has_given W.Stream.has_got self.old.peers self.new.peers }
+        ensures served { KeepsServed self.old.peers self.new.peers }
     {
         let due = self.due_behind(self.times.patience.idle_timeout);
         self.agenda.note(Timeout::Guest, due, guest);
@@ -91,6 +107,7 @@ impl<W: World> Attended<W> {
     /// ended. Its link lingers, if there is memory for that, and goes in time.
     pub fn turn_away(&mut self, guest: u64, stream: W::Stream, refusal: &[u8])
         ensures kept { KeepsPeers W.Stream.has_given W.Stream.has_got self.old.peers self.new.peers }
+        ensures served { KeepsServed self.old.peers self.new.peers }
     {
         let due = self.due_behind(REFUSED_LINGERS);
         if self.peers.turn_away(guest, stream, refusal) {
@@ -101,6 +118,7 @@ impl<W: World> Attended<W> {
     /// Drops what one sends who was turned away, and then the link, once nothing more comes.
     pub fn drop_rest_of_guest(&mut self, guest: u64, buffer: &mut [u8])
         ensures kept { KeepsPeers W.Stream.has_given W.Stream.has_got self.old.peers self.new.peers }
+        ensures served { KeepsServed self.old.peers self.new.peers }
     {
         if self.peers.discard_turned_away(guest, buffer) {
             self.drop_turned_away(guest);
@@ -110,6 +128,7 @@ impl<W: World> Attended<W> {
     /// Drops the link of one who was turned away, if it is there.
     pub fn drop_turned_away(&mut self, guest: u64)
         ensures kept { KeepsPeers W.Stream.has_given W.Stream.has_got self.old.peers self.new.peers }
+        ensures served { KeepsServed self.old.peers self.new.peers }
     {
         self.agenda.forget(Timeout::TurnedAway, guest);
         self.freed = true;

@@ -3,6 +3,7 @@
 
 mod attended;
 mod clients;
+mod cutting;
 mod forwards;
 mod guests;
 mod lingering;
@@ -14,6 +15,7 @@ mod times;
 mod world;
 
 pub use attended::Attended;
+pub use cutting::Waiters;
 pub use settled::{
     a_crowd_without_links_is_settled, nothing_is_left_lying, who_is_to_be_heard_has_a_turn,
 };

@@ -23,6 +23,7 @@ impl<W: World> Attended<W> {
     ghost use Rattle.hc_order.specs.Log.{Move};
     ghost use Rattle.hc_order.specs.Log.Move.{Closed};
     ghost use Rattle.hc_peers.specs.Lingering.{is_lingering};
+    ghost use Rattle.hc_attended.specs.Grounds.{KeepsAllBut, KeepsServed};
     ghost use Rattle.hc_peers.specs.Peers.{ArePeers, Bounds};
     ghost use Rattle.hc_peers.specs.Shown.{ShowNoMore};
 
@@ -32,6 +33,7 @@ impl<W: World> Attended<W> {
         ensures tells { (bounds : Bounds) (log : List Move) → ArePeers W.Stream.has_given W.Stream.has_got bounds self.old.peers log
             → ArePeers W.Stream.has_given W.Stream.has_got bounds self.new.peers (Closed (Origin forward) ∷ log) }
         ensures shown { (log : List Move) → ShowNoMore W.Stream.has_got self.old.peers log → ShowNoMore W.Stream.has_got self.new.peers log }
+        ensures others { KeepsAllBut forward self.old.peers self.new.peers }
     {
         let closed = self.peers.close_origin(forward);
         linger(
@@ -48,6 +50,7 @@ impl<W: World> Attended<W> {
     /// What is told of a link that lingers asks for a turn, whatever it is.
     pub fn give_lingering_turn(&mut self, forward: u64)
         ensures kept { KeepsPeers W.Stream.has_given W.Stream.has_got self.old.peers self.new.peers }
+        ensures served { KeepsServed self.old.peers self.new.peers }
     {
         give_lingering_turn(&mut self.peers, &mut self.agenda, forward);
     }
@@ -57,6 +60,7 @@ impl<W: World> Attended<W> {
         requires turn { IsFirstTurn (Some (Origin forward)) self.old.agenda.turns }
         requires lingers { is_lingering forward self.old.peers.lingering ≡ true }
         ensures kept { KeepsPeers W.Stream.has_given W.Stream.has_got self.old.peers self.new.peers }
+        ensures served { KeepsServed self.old.peers self.new.peers }
     {
         self.agenda.turns.next();
         drop_rest(&mut self.peers, &mut self.agenda, forward, buffer);
@@ -67,6 +71,7 @@ impl<W: World> Attended<W> {
     pub fn drop_lingering(&mut self, forward: u64)
         ensures kept { KeepsPeers W.Stream.has_given W.Stream.has_got self.old.peers self.new.peers }
         ensures gone { is_lingering forward self.new.peers.lingering ≡ false }
+        ensures served { KeepsServed self.old.peers self.new.peers }
     {
         self.agenda.forget(Timeout::OriginLingering, forward);
         self.peers.drop_lingering(forward);

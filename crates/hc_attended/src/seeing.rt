@@ -10,7 +10,7 @@ ghost use Rattle.hc_peers.specs.Keeping.{KeepsPeers};
 ghost use Rattle.hc_peers.specs.Known.{KeepsKnown};
 ghost use Rattle.hc_order.specs.Passages.{is_at};
 ghost use Rattle.hc_order.specs.declared.receiver.Receiver.TheVariants.{Client, Origin};
-ghost use Rattle.hc_peers.specs.Peers.{ChangesOnly, QueuesOf};
+ghost use Rattle.hc_peers.specs.Peers.{ChangesOnly, FailsOnlyAt, QueuesOf, is_failed_by};
 ghost use Rattle.hc_attended.specs.declared.times.Times.{Times};
 ghost use Rattle.hc_attended.specs.Notes.{KeepsNotes, due_of, is_noted_owed, no_deadline, no_link, stands_in_turn};
 ghost use Rattle.hc_attended.specs.Tending.{IsClientMarked, IsClientSeenTo, IsForwardMarked, IsForwardSeenTo, IsMarked, LingersInTime, Stands, TendsClient, TurnsOnly};
@@ -140,6 +140,7 @@ pub(crate) fn learn<S: Stream + Drop>(
 )
     ensures kept { KeepsPeers S.has_given S.has_got peers.old peers.new }
     ensures only { ChangesOnly link peers.old peers.new }
+    ensures fails { FailsOnlyAt S.has_failed (is_failed_by readiness link peers.old ≡ true) link peers.old peers.new }
     ensures behind { LearnsAt link readiness tick peers.old peers.new }
     ensures notes { KeepsNotes no_link no_link no_deadline agenda.old agenda.new }
     ensures marked { agenda.new.refused ≡ false → IsMarked link peers.old agenda.old → IsMarked link peers.new agenda.new }

@@ -2,7 +2,9 @@
 
 ghost use Rattle.std.specs.Prelude.{◌≡◌, ℕ, Bool, true, [], IfSome};
 ghost use Rattle.hc_flow.specs.Passing.{Stays};
-ghost use Rattle.hc_attended.specs.Worlds.{IsFreshlyAccepted};
+ghost use Rattle.hc_flow.specs.declared.readiness.Readiness.{Readiness};
+ghost use Rattle.hc_order.specs.declared.receiver.Receiver.{Receiver};
+ghost use Rattle.hc_attended.specs.Worlds.{IsFreshlyAccepted, IsTold};
 
 use hc_flow::{Readiness, Stream};
 use hc_order::Receiver;
@@ -41,11 +43,15 @@ pub trait World {
     /// Whether its clock shows that millisecond, now or later.
     ghost shows_tick: { ℕ → Bool } = { λ _. true };
 
+    /// Whether it tells that of a link, now or later.
+    ghost tells_of: { Receiver → Readiness → Bool } = { λ _ _. true };
+
     /// Waits until something is ready, so many milliseconds at most.
     fn wait(&mut self, most: u64);
 
     /// What became ready and wasn't told yet.
-    fn ready(&mut self) -> Option<Ready>;
+    fn ready(&mut self) -> Option<Ready>
+        ensures { IfSome result (IsTold tells_of) };
 
     /// A client who has connected. What becomes ready at its link is told as that of the guest of that number.
     fn accept(&mut self, guest: u64) -> Accepted<Self::Stream>

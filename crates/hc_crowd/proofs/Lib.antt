@@ -1,9 +1,9 @@
 pub mod CrowdLemmas
 pub mod DeliveringLemmas
+pub mod DueLemmas
 pub mod HeldLemmas
 pub mod LighteningLemmas
 pub mod LosingLemmas
-pub mod NumberLemmas
 pub mod PlacesLemmas
 pub mod SweepLemmas
 pub mod TailLemmas

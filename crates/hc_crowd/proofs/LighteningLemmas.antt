@@ -1,11 +1,14 @@
 -- Who isn't cut off stays.
-use Rattle.std.proofs.Common.{append_assoc, append-nil, ◌≡◌, ℕ, Bool, true, false, ◌||◌, List, [], ◌∷◌, ◌++◌, Some, option_map, refl, sym, ap, ◌∙◌}
+use Rattle.std.proofs.Common.{append_assoc, append-nil, arith, ◌≡◌, ◌==◌, ℕ, Bool, true, false, ◌||◌, List, [], ◌∷◌, ◌++◌, Option, Some, IfSome, option_map, refl, sym, ap, subst, ◌∙◌, true≢false}
+use Rattle.std.proofs.lemmas.Bool.Decides.{nat_tests}
 use Rattle.std.specs.BTreeMap.{get}
 use Rattle.std.specs.Cmp.{unsigned_tied}
 use Rattle.std.specs.Ordering.{nat_cmp}
+use Rattle.hc_order.specs.declared.occurrence.Reason.TheVariants.{Held}
 use Rattle.hc_order.specs.declared.receiver.Receiver.{Receiver}
 use Rattle.hc_order.specs.declared.receiver.Receiver.TheVariants.{Client, Origin}
 use Rattle.hc_order.specs.Passages.{is_at}
+use Rattle.hc_agenda.specs.declared.reckoning.Heaviest.{Heaviest}
 use Rattle.hc_agenda.specs.declared.reckoning.Load.{Load}
 use Rattle.hc_peers.specs.Forwards.{turned}
 use Rattle.hc_peers.specs.Known.{unqueued}
@@ -15,7 +18,19 @@ use Rattle.hc_agenda.specs.Loads.{TakesHeaviest}
 use Rattle.hc_peers.specs.Forwards.{has_link, is_waiting}
 use Rattle.hc_peers.specs.declared.client.Client.{Client as KeptClient}
 use Rattle.hc_peers.specs.declared.forward.Forward.{Forward}
+use Rattle.hc_peers.specs.declared.forward.Reaching.TheVariants.{Lost}
+use Rattle.hc_attended.specs.Grounds.{IsCutOff}
 use Rattle.hc_crowd.specs.Lightening.{AddsLoads, AreLoadsOf, IsLoadOf, LightenSoFar, OthersStay, StaysAt, is_among, weighed_clients, weighed_forwards}
+
+same_number : (n m : ℕ) → (n == m) ≡ true → n ≡ m
+same_number n m is = grind (arith, nat_tests)
+
+-- a link at that place is that one
+same_link : (link one : Receiver) → is_at link one ≡ true → link ≡ one
+same_link (Client n) (Client m) is = ap Client (sym (same_number m n is))
+same_link (Origin n) (Origin m) is = ap Origin (sym (same_number m n is))
+same_link (Client n) (Origin m) is = absurd (true≢false (sym is))
+same_link (Origin n) (Client m) is = absurd (true≢false (sym is))
 
 neither : (a b : Bool) → (a || b) ≡ false → (a ≡ false) × (b ≡ false)
 neither true b e = cc
@@ -43,15 +58,32 @@ module _ {S : Type 0} where
 
   -- nobody was cut off yet
   pub none_yet : (most : ℕ) (loads : List Load) (peers : Peers S) → LightenSoFar most loads loads peers peers
-  none_yet most loads peers = record { taken = []; takes = refl; others = λ link none. stays_same link peers }
+  none_yet most loads peers = record {
+    taken = [];
+    takes = refl;
+    cut = λ link among. absurd (true≢false (sym among));
+    others = λ link none. stays_same link peers;
+  }
+
+  -- who was cut off stays so, where nothing more happens to it
+  stays_cut : (link : Receiver) (before after : Peers S) → StaysAt link before after → IsCutOff link before → IsCutOff link after
+  stays_cut (Client n) before after same cut = subst (λ (there : Option (KeptClient S)). IfSome there (λ client. client.cut ≡ true)) (sym same) cut
+  stays_cut (Origin f) before after same cut = subst (λ (there : Option (Forward S)). IfSome there (λ forward. forward.reaching ≡ Lost Held)) (sym same) cut
+
+  -- the links that were cut off, and one more
+  cut_too : (b : Bool) (link one : Receiver) (among : Bool) (between after : Peers S) → is_at link one ≡ b → (b || among) ≡ true → (among ≡ true → IsCutOff link between) → IsCutOff one after
+      → OthersStay one between after → IsCutOff link after
+  cut_too true link one among between after here is before now others = subst (λ (l : Receiver). IsCutOff l after) (sym (same_link link one here)) now
+  cut_too false link one among between after here is before now others = stays_cut link between after (others link here) (before is)
 
   -- one more was cut off
-  pub one_more : (most : ℕ) (load : Load) (loads mid left : List Load) (before between after : Peers S) → LightenSoFar most loads mid before between
-      → TakesHeaviest most (Some load) mid left → OthersStay load.link between after → LightenSoFar most loads left before after
-  one_more most load loads mid left before between after so_far takes now = record {
-    taken = load ∷ so_far.taken;
+  pub one_more : (most : ℕ) (heaviest : Heaviest) (loads mid left : List Load) (before between after : Peers S) → LightenSoFar most loads mid before between
+      → TakesHeaviest most (Some heaviest) mid left → IsCutOff heaviest.load.link after → OthersStay heaviest.load.link between after → LightenSoFar most loads left before after
+  one_more most heaviest loads mid left before between after so_far takes cut now = record {
+    taken = heaviest ∷ so_far.taken;
     takes = (mid, so_far.takes, takes);
-    others = λ link other. let both = neither (is_at link load.link) (is_among link so_far.taken) other in
+    cut = λ link among. cut_too (is_at link heaviest.load.link) link heaviest.load.link (is_among link so_far.taken) between after refl among (so_far.cut link) cut now;
+    others = λ link other. let both = neither (is_at link heaviest.load.link) (is_among link so_far.taken) other in
         stays_then link before between after (so_far.others link both.1) (now link both.0);
   }
 

@@ -1,5 +1,5 @@
 -- What ends in a turn.
-use Rattle.std.proofs.Common.{arith, ◌≡◌, ◌∙◌, ℕ, Bool, true, Result, Ok, Err, suc, zero, sym, true≢false, nat_lt}
+use Rattle.std.proofs.Common.{arith, ◌≡◌, ◌∙◌, ◌⊎◌, ◌&&◌, ◌||◌, not, ℕ, Bool, true, false, Result, Ok, Err, inl, inr, refl, subst, suc, zero, sym, true≢false, nat_lt}
 use Rattle.std.proofs.lemmas.Bool.Decides.{nat_tests}
 use Rattle.std.specs.declared.alloc.AllocError.{AllocError}
 use Rattle.hc_flow.specs.declared.heard.Heard.{Heard}
@@ -11,7 +11,12 @@ use Rattle.hc_order.specs.declared.receiver.Receiver.TheVariants.{Client, Origin
 use Rattle.hc_peers.specs.declared.client.Hearing.{Hearing}
 use Rattle.hc_peers.specs.Heard.{told}
 use Rattle.hc_peers.specs.Hearings.{IsHeardFor, IsRead}
-use Rattle.hc_crowd.specs.Courses.{EndsUnbegun, is_for_others}
+use Rattle.hc_events.specs.declared.Happening.TheVariants.{ClientEnd}
+use Rattle.hc_flow.specs.declared.patience.Patience.{Patience}
+use Rattle.hc_peers.specs.Peers.{is_client_overdue}
+use Rattle.hc_peers.specs.declared.peers.Peers.{Peers}
+use Rattle.hc_crowd.specs.declared.course.Course.{Course}
+use Rattle.hc_crowd.specs.Courses.{EndsUnawaited, EndsUnbegun, IsEndUnawaited, is_for_others, is_late, is_over_for}
 
 some_held : (k : ℕ) → nat_lt 0 (suc k) ≡ true
 some_held k = grind (arith, nat_tests)
@@ -46,3 +51,44 @@ module _ (holds : Receiver → ℕ → Type 0) where
   forward_ends f (Ok (Lost reason)) = tt
   forward_ends f (Ok Nothing) = tt
   forward_ends f (Err refused) = tt
+
+-- ---- that its time is over
+
+over_by : (late awaited overdue : Bool) → (late || (not awaited && overdue)) ≡ true → (late ≡ true) ⊎ (awaited ≡ false)
+over_by true awaited overdue e = inl refl
+over_by false false overdue e = inr refl
+over_by false true overdue e = cc
+
+module _ (awaited : ℕ → Bool → Type 0) where
+  unawaited : (n : ℕ) (late answer : Bool) → awaited n answer → (late ≡ true) ⊎ (answer ≡ false) → (late ≡ true) ⊎ awaited n false
+  unawaited n late answer says (inl is) = inl is
+  unawaited n late answer says (inr none) = inr (subst (awaited n) none says)
+
+  ended_in_time : {S : Type 0} (n : ℕ) (course : Course) (peers : Peers S) (patience : Patience) (hearing : Hearing) (cut : Bool) (F : Type 0) (reason : Reason) → awaited n hearing.awaited
+      → (hearing.late ≡ true → is_over_for course peers n hearing.awaited hearing.tick patience ≡ true) → IsHeardFor hearing cut F (Ok (End reason)) → IsEndUnawaited awaited (is_late course) (ClientEnd n) reason
+  ended_in_time n course peers patience hearing cut F Late says over is =
+      unawaited n (is_late course) hearing.awaited says (over_by (is_late course) hearing.awaited (is_client_overdue peers n hearing.tick patience) (over is))
+  ended_in_time n course peers patience hearing cut F Peer says over is = tt
+  ended_in_time n course peers patience hearing cut F Replies says over is = tt
+  ended_in_time n course peers patience hearing cut F Reads says over is = tt
+  ended_in_time n course peers patience hearing cut F Stop says over is = tt
+  ended_in_time n course peers patience hearing cut F Reset says over is = tt
+  ended_in_time n course peers patience hearing cut F Held says over is = tt
+  ended_in_time n course peers patience hearing cut F Displaced says over is = tt
+  ended_in_time n course peers patience hearing cut F Abandoned says over is = tt
+
+  -- a client ends for its time only where none of its requests awaits its reply, or that behind a stop is over
+  pub client_ends_in_time : {S : Type 0} (n : ℕ) (course : Course) (peers : Peers S) (patience : Patience) (hearing : Hearing) (cut : Bool) (F : Type 0) (result : Result Heard AllocError) → awaited n hearing.awaited
+      → (hearing.late ≡ true → is_over_for course peers n hearing.awaited hearing.tick patience ≡ true) → IsHeardFor hearing cut F result → EndsUnawaited awaited (is_late course) (told (Client n) result)
+  client_ends_in_time n course peers patience hearing cut F (Ok (Octets octets)) says over is = tt
+  client_ends_in_time n course peers patience hearing cut F (Ok (End reason)) says over is = ended_in_time n course peers patience hearing cut F reason says over is
+  client_ends_in_time n course peers patience hearing cut F (Ok (Lost reason)) says over is = tt
+  client_ends_in_time n course peers patience hearing cut F (Ok Nothing) says over is = tt
+  client_ends_in_time n course peers patience hearing cut F (Err refused) says over is = tt
+
+  pub forward_ends_in_time : (f : ℕ) (late : Bool) (result : Result Heard AllocError) → EndsUnawaited awaited late (told (Origin f) result)
+  forward_ends_in_time f late (Ok (Octets octets)) = tt
+  forward_ends_in_time f late (Ok (End reason)) = tt
+  forward_ends_in_time f late (Ok (Lost reason)) = tt
+  forward_ends_in_time f late (Ok Nothing) = tt
+  forward_ends_in_time f late (Err refused) = tt

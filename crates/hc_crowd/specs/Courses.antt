@@ -3,20 +3,18 @@ use Rattle.std.specs.Prelude.{◌≡◌, ◌⊎◌, ◌≤◌, ℕ, ◌&&◌, �
 use Rattle.std.specs.declared.alloc.AllocError.{AllocError}
 use Rattle.hc_events.specs.declared.Happening.{Happening}
 use Rattle.hc_events.specs.declared.Happening.TheVariants.{ClientEnd}
-use Rattle.hc_flow.specs.declared.pace.Pace.{Pace}
-use Rattle.hc_flow.specs.declared.pace.Pace.TheVariants.{Idle, Asking, Taking}
 use Rattle.hc_flow.specs.declared.patience.Patience.{Patience}
 use Rattle.hc_link_traits.specs.declared.happened.Happened.{Happened}
 use Rattle.hc_order.specs.declared.occurrence.Reason.{Reason}
-use Rattle.hc_order.specs.declared.occurrence.Reason.TheVariants.{Stop, Displaced}
+use Rattle.hc_order.specs.declared.occurrence.Reason.TheVariants.{Stop, Displaced, Late as TooLate}
 use Rattle.hc_order.specs.declared.receiver.Receiver.{Receiver}
 use Rattle.hc_order.specs.declared.receiver.Receiver.TheVariants as to
 use Rattle.hc_peers.specs.declared.client.Hearing.{Hearing}
 use Rattle.hc_peers.specs.declared.peers.Peers.{Peers}
-use Rattle.hc_peers.specs.Tables.{is_there_and}
 use Rattle.hc_peers.specs.Hearings.{HasFailedAt, IsRead}
 use Rattle.hc_peers.specs.Known.{known_at}
 use Rattle.hc_peers.specs.Peers.{is_client_overdue}
+use Rattle.hc_attended.specs.Grounds.{is_idle}
 use Rattle.hc_crowd.specs.declared.course.Course.{Course}
 use Rattle.hc_crowd.specs.declared.course.Course.TheVariants.{Serving, Ceasing, Draining, Late}
 
@@ -40,16 +38,6 @@ is_late Serving = false
 is_late (Ceasing idle_until until) = false
 is_late (Draining until) = false
 is_late Late = true
-
--- whether a client is idle
-abbrev pub is_idle_pace : Pace → Bool
-is_idle_pace (Idle since) = true
-is_idle_pace (Asking since octets) = false
-is_idle_pace (Taking since) = false
-
--- whether a client is there, and is idle
-abbrev pub is_idle : {S : Type 0} → Peers S → ℕ → Bool
-is_idle peers number = is_there_and (known_at number peers.clients.links) (λ client. is_idle_pace client.pace)
 
 -- whether a stop ends a client: one that is idle, once such ones end
 abbrev pub is_stop_for : {S : Type 0} → Course → Peers S → (number : ℕ) → Bool
@@ -89,6 +77,16 @@ abbrev pub EndsUnbegun : (Receiver → ℕ → Type 0) → Result (Option Happen
 EndsUnbegun holds (Ok (Some happened)) = IsEndUnbegun holds happened.of happened.reason
 EndsUnbegun holds (Ok None) = Unit {0}
 EndsUnbegun holds (Err refused) = Unit {0}
+
+-- that its time is over is told of a client only where that behind a stop is, or where the cache may say that none of its requests awaits its reply
+abbrev pub IsEndUnawaited : (awaited : ℕ → Bool → Type 0) → (late : Bool) → Happening → Reason → Type 0
+IsEndUnawaited awaited late (ClientEnd n) TooLate = (late ≡ true) ⊎ awaited n false
+IsEndUnawaited awaited late other reason = Unit {0}
+
+abbrev pub EndsUnawaited : (awaited : ℕ → Bool → Type 0) → (late : Bool) → Result (Option Happened) AllocError → Type 0
+EndsUnawaited awaited late (Ok (Some happened)) = IsEndUnawaited awaited late happened.of happened.reason
+EndsUnawaited awaited late (Ok None) = Unit {0}
+EndsUnawaited awaited late (Err refused) = Unit {0}
 
 -- as many clients have come as are served
 abbrev pub HaveAllCome : Option ℕ → ℕ → Type 0

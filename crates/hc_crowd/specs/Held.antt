@@ -1,5 +1,5 @@
 -- How much is held of what came, and of what was sent.
-use Rattle.std.specs.Prelude.{◌≡◌, ◌⊎◌, ◌+◌, ◌-◌, ◌^◌, ℕ, length, min, Option, Some, None, Result, Ok, Err}
+use Rattle.std.specs.Prelude.{◌≡◌, ◌⊎◌, ◌+◌, ◌-◌, ◌^◌, ℕ, List, length, min, Option, Some, None, Result, Ok, Err}
 use Rattle.std.specs.declared.alloc.AllocError.{AllocError}
 use Rattle.hc_agenda.specs.declared.holding.Holding.{Holding}
 use Rattle.hc_agenda.specs.Loads.{most_held}
@@ -8,6 +8,7 @@ use Rattle.hc_events.specs.declared.Happening.TheVariants.{ClientBytes, OriginBy
 use Rattle.hc_link_traits.specs.declared.happened.Happened.{Happened}
 use Rattle.hc_order.specs.declared.receiver.Receiver.{Receiver}
 use Rattle.hc_peers.specs.declared.peers.Peers.{Peers}
+use Rattle.hc_peers.specs.Keeping.{KeepsWithin}
 use Rattle.hc_crowd.specs.Lightening.{IsBounded}
 
 -- so many octets more are held, as far as that can be counted
@@ -25,11 +26,19 @@ abbrev pub GrowsBy : Option Happened → Holding → Holding → Type 0
 GrowsBy None before after = after ≡ before
 GrowsBy (Some happened) before after = after ≡ grown_by (octets_of happened.of) before
 
--- what is held is as before, or is what was left where each link was weighed
-abbrev pub HoldsAsWeighed : (S : Type 0) → (holds : Receiver → ℕ → Type 0) → (limit : ℕ) → Holding → Holding → Type 0
-HoldsAsWeighed S holds limit before after = (after ≡ before) ⊎ ((peers : Peers S) × (lightened : Peers S) × IsBounded holds limit (most_held after) peers lightened)
+module _ {S : Type 0} (has_given has_got : S → List ℕ → Type 0) (most : ℕ) (holds : Receiver → ℕ → Type 0) (limit : ℕ) where
+  -- of these links, which tell what was told before, each was weighed, and so much is left of what they hold
+  pub record IsWeighed (held : ℕ) (before : Peers S) : Type 0 where
+    pub weighed : Peers S
+    pub lightened : Peers S
+    pub told : KeepsWithin has_given has_got most before weighed
+    pub bounded : IsBounded holds limit held weighed lightened
 
--- and then the octets are held, too, that came by what happens next; where memory is refused, no more are than was weighed
-abbrev pub HoldsWhatCame : (S : Type 0) → (holds : Receiver → ℕ → Type 0) → (limit : ℕ) → Result (Option Happened) AllocError → Holding → Holding → Type 0
-HoldsWhatCame S holds limit (Ok happened) before after = (between : Holding) × HoldsAsWeighed S holds limit before between × GrowsBy happened between after
-HoldsWhatCame S holds limit (Err refused) before after = HoldsAsWeighed S holds limit before after
+  -- what is held is as before, or is what was left where each link was weighed
+  abbrev pub HoldsAsWeighed : Peers S → Holding → Holding → Type 0
+  HoldsAsWeighed peers before after = (after ≡ before) ⊎ IsWeighed (most_held after) peers
+
+  -- and then the octets are held, too, that came by what happens next; where memory is refused, no more are than was weighed
+  abbrev pub HoldsWhatCame : Peers S → Result (Option Happened) AllocError → Holding → Holding → Type 0
+  HoldsWhatCame peers (Ok happened) before after = (between : Holding) × HoldsAsWeighed peers before between × GrowsBy happened between after
+  HoldsWhatCame peers (Err refused) before after = HoldsAsWeighed peers before after

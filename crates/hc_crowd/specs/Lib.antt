@@ -1,4 +1,3 @@
-pub mod Abandoning
 pub mod Courses
 pub mod CrowdLaws
 pub mod Crowds

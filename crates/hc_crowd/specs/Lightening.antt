@@ -6,6 +6,7 @@ use Rattle.std.specs.Ordering.{nat_cmp}
 use Rattle.hc_order.specs.declared.receiver.Receiver.{Receiver}
 use Rattle.hc_order.specs.declared.receiver.Receiver.TheVariants.{Client, Origin}
 use Rattle.hc_order.specs.Passages.{is_at}
+use Rattle.hc_agenda.specs.declared.reckoning.Heaviest.{Heaviest}
 use Rattle.hc_agenda.specs.declared.reckoning.Load.{Load}
 use Rattle.hc_agenda.specs.Loads.{TakesHeaviest, cuts_to, total}
 use Rattle.hc_peers.specs.Forwards.{has_link, is_waiting, turned}
@@ -14,16 +15,17 @@ use Rattle.hc_peers.specs.Peers.{is_owed_to}
 use Rattle.hc_peers.specs.declared.client.Client.{Client as KeptClient}
 use Rattle.hc_peers.specs.declared.forward.Forward.{Forward}
 use Rattle.hc_peers.specs.declared.peers.Peers.{Peers}
+use Rattle.hc_attended.specs.Grounds.{IsCutOff}
 
 -- loads were taken out one after another, as long as there were more than so many octets, and each was a heaviest one; the last that was taken comes first
-abbrev pub TakeHeaviest : ℕ → List Load → (before after : List Load) → Type 0
+abbrev pub TakeHeaviest : ℕ → List Heaviest → (before after : List Load) → Type 0
 TakeHeaviest most [] before after = after ≡ before
-TakeHeaviest most (load ∷ taken) before after = (mid : List Load) × TakeHeaviest most taken before mid × TakesHeaviest most (Some load) mid after
+TakeHeaviest most (heaviest ∷ taken) before after = (mid : List Load) × TakeHeaviest most taken before mid × TakesHeaviest most (Some heaviest) mid after
 
--- whether one of the loads is that of the link
-abbrev pub is_among : Receiver → List Load → Bool
+-- whether one of them is that of the link
+abbrev pub is_among : Receiver → List Heaviest → Bool
 is_among link [] = false
-is_among link (load ∷ loads) = is_at link load.link || is_among link loads
+is_among link (heaviest ∷ taken) = is_at link heaviest.load.link || is_among link taken
 
 -- a link is as it was, but for whose turn it is
 abbrev pub StaysAt : {S : Type 0} → Receiver → Peers S → Peers S → Type 0
@@ -36,8 +38,9 @@ OthersStay one before after = (link : Receiver) → is_at link one ≡ false →
 
 -- these loads are left, those that were heaviest were taken out, their links were cut off, and no other link was
 pub record LightenSoFar {S : Type 0} (most : ℕ) (loads left : List Load) (before after : Peers S) : Type 0 where
-  pub taken : List Load
+  pub taken : List Heaviest
   pub takes : TakeHeaviest most taken loads left
+  pub cut : (link : Receiver) → is_among link taken ≡ true → IsCutOff link after
   pub others : (link : Receiver) → is_among link taken ≡ false → StaysAt link before after
 
 -- the links that held most were cut off, until no more than so much was left, and no other link was; so much is held still

@@ -26,7 +26,7 @@ impl<W: World> Traffic<W> {
             return false;
         }
         match limits.clients {
-            Some(most) => self.links.peers.last() < most,
+            Some(most) => self.links.peers().last() < most,
             None => true,
         }
     }
@@ -40,8 +40,8 @@ impl<W: World> Traffic<W> {
     fn may_serve_guest(&self, clients: Option<u64>) -> bool {
         match clients {
             Some(most) => {
-                (self.links.peers.guests.len() as u64)
-                    < most.saturating_sub(self.links.peers.last())
+                (self.links.peers().guests.len() as u64)
+                    < most.saturating_sub(self.links.peers().last())
             }
             None => true,
         }
@@ -57,13 +57,13 @@ impl<W: World> Traffic<W> {
     /// Whether a client may be turned away now, who has connected: there is room for that, and none waits for somebody to
     /// give way.
     fn turns_away(&self) -> bool {
-        self.links.peers.may_turn_away() && self.listening.held_until().is_none()
+        self.links.peers().may_turn_away() && self.listening.held_until().is_none()
     }
 
     /// Whether there is room for a further guest, or a client lingers that can give way.
     fn may_make_room(&self, most: usize) -> bool {
-        self.links.peers.has_room(most)
-            || (self.links.peers.has_fewer_open(most)
+        self.links.peers().has_room(most)
+            || (self.links.peers().has_fewer_open(most)
                 && self.links.agenda.longest_lingering().is_some())
     }
 
@@ -74,14 +74,14 @@ impl<W: World> Traffic<W> {
         ensures room { result ≡ true → HasRoom self.new.links.peers most }
         ensures full { result ≡ false → HasRoom self.new.links.peers most → ⊥ }
     {
-        if self.links.peers.has_room(most) {
+        if self.links.peers().has_room(most) {
             return true;
         }
         if !self.may_make_room(most) {
             return false;
         }
         self.give_way();
-        self.links.peers.has_room(most)
+        self.links.peers().has_room(most)
     }
 
     /// The client's link goes that has lingered for longest, if one does.
@@ -120,7 +120,7 @@ impl<W: World> Traffic<W> {
         if !self.accepts_more(limits) {
             return Ok(false);
         }
-        let Some(guest) = self.links.peers.guests.next_number() else {
+        let Some(guest) = self.links.next_guest() else {
             return Ok(false);
         };
         if self.make_room(limits.connections) {

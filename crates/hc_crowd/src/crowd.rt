@@ -94,7 +94,7 @@ impl<W: World> Crowd<W> {
     fn hear_next<A: Awaiting>(&mut self, cache: &A) -> Result<Option<Happened>, AllocError>
         ensures heard { HearsWithin W.Stream.has_given W.Stream.has_got self.old.limits.connections (A.awaited cache.now) result self.old.traffic.links.peers self.new.traffic.links.peers }
         ensures rest { (self.new.limits ≡ self.old.limits) × (self.new.clock ≡ self.old.clock) }
-        ensures held { HoldsWhatCame W.Stream (A.holds cache.now) self.old.limits.held result self.old.holding self.new.holding }
+        ensures held { HoldsWhatCame W.Stream.has_given W.Stream.has_got self.old.limits.connections (A.holds cache.now) self.old.limits.held self.old.traffic.links.peers result self.old.holding self.new.holding }
     {
         let happened = self
             .traffic
@@ -137,7 +137,7 @@ impl<W: World> Crowd<W> {
     pub fn accepted(&self) -> u64
         ensures { result ≡ last_given self.now.traffic.links.peers }
     {
-        self.traffic.links.peers.last()
+        self.traffic.links.peers().last()
     }
 }
 

@@ -58,7 +58,7 @@ impl<W: World> Traffic<W> {
         if self.links.time.tick < self.busy_until {
             return Displacement::Nobody;
         }
-        let Some(silent) = self.longest_silent(cache, limits.patience) else {
+        let Some(silent) = self.longest_silent(cache) else {
             self.busy_until = self.links.due_behind(LOOKS_AGAIN);
             return Displacement::Nobody;
         };
@@ -96,11 +96,11 @@ impl<W: World> Traffic<W> {
     }
 
     /// Who has been silent for longest, a guest or a client, if anybody is.
-    fn longest_silent<A: Awaiting>(&self, cache: &A, patience: Patience) -> Option<Silent> {
-        let mut longest = self.longest_silent_guest(patience);
+    fn longest_silent<A: Awaiting>(&self, cache: &A) -> Option<Silent> {
+        let mut longest = self.longest_silent_guest();
         let mut least = 0;
-        'clients: for _ in 0..self.links.peers.clients.len() {
-            let Some(number) = self.links.peers.clients.first_from(least) else {
+        'clients: for _ in 0..self.links.peers().clients.len() {
+            let Some(number) = self.links.peers().clients.first_from(least) else {
                 return longest;
             };
             longest = longer(longest, self.silent_client(number, cache));
@@ -110,17 +110,19 @@ impl<W: World> Traffic<W> {
     }
 
     /// The guest that has been silent for longest: the one whose time is over first.
-    fn longest_silent_guest(&self, patience: Patience) -> Option<Silent> {
+    fn longest_silent_guest(&self) -> Option<Silent> {
         let deadline = self.links.agenda.longest_silent_guest()?;
         Some(Silent {
             who: Who::Guest(deadline.number),
-            since: deadline.tick.saturating_sub(patience.idle_timeout),
+            since: deadline
+                .tick
+                .saturating_sub(self.links.patience().idle_timeout),
         })
     }
 
     /// A client, where it is served, nothing is owed to it, and nothing has come of its next request.
     fn silent_client<A: Awaiting>(&self, number: u64, cache: &A) -> Option<Silent> {
-        let client = self.links.peers.clients.get(number)?;
+        let client = self.links.peers().clients.get(number)?;
         if client.is_closed() || client.is_readable() {
             return None;
         }

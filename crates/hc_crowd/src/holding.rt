@@ -4,12 +4,12 @@ ghost use Rattle.std.specs.Prelude.{◌+◌, ◌-◌, ◌^◌, ◌≡◌, ◌≤
 ghost use Rattle.hc_peers.specs.Forwards.{has_link, is_waiting};
 
 use crate::traffic::Traffic;
-use hc_agenda::{Holding, Load, Ranking, Reckoning};
+use hc_agenda::{Heaviest, Holding, Load, Ranking, Reckoning};
 use hc_attended::World;
 use hc_events::Trouble;
 use hc_flow::Stream;
 use hc_link_traits::Awaiting;
-use hc_order::{Reason, Receiver};
+use hc_order::Receiver;
 use hc_peers::Forward;
 use std::alloc::AllocError;
 
@@ -17,6 +17,7 @@ impl<W: World> Traffic<W> {
     ghost use Rattle.hc_agenda.specs.Loads.{cuts_to, looks_above, most_held};
     ghost use Rattle.hc_peers.specs.Keeping.{KeepsPeers};
     ghost use Rattle.hc_agenda.specs.declared.reckoning.Load.{Load};
+    ghost use Rattle.hc_attended.specs.Grounds.{IsCutOff};
     ghost use Rattle.hc_crowd.specs.Lightening.{AddsLoads, IsBounded, IsLightened, IsLoadOf, OthersStay, weighed_clients, weighed_forwards};
 
     /// Where so much may be held that it comes near the limit, each link is looked at, and those that hold most are cut off,
@@ -53,7 +54,7 @@ impl<W: World> Traffic<W> {
     ) -> Result<(), AllocError>
         ensures { OnOk result (AddsLoads (A.holds cache.now) self.now.links.peers (weighed_clients self.now.links.peers.clients.links.entries) reckoning.old.loads.items reckoning.new.loads.items) }
     {
-        'clients: for (number, client) in self.links.peers.clients.iter() {
+        'clients: for (number, client) in self.links.peers().clients.iter() {
             if client.is_cut() {
                 continue;
             }
@@ -70,7 +71,7 @@ impl<W: World> Traffic<W> {
     ) -> Result<(), AllocError>
         ensures { OnOk result (AddsLoads (A.holds cache.now) self.now.links.peers (weighed_forwards self.now.links.peers.forwards.links.entries) reckoning.old.loads.items reckoning.new.loads.items) }
     {
-        'forwards: for (number, forward) in self.links.peers.forwards.iter() {
+        'forwards: for (number, forward) in self.links.peers().forwards.iter() {
             if !is_underway(forward) {
                 continue;
             }
@@ -89,7 +90,7 @@ impl<W: World> Traffic<W> {
         ensures { OnOk result ((added : Load) × IsLoadOf (A.holds cache.now) self.now.links.peers link added
             × (reckoning.new.loads.items ≡ reckoning.old.loads.items ++ added ∷ [])) }
     {
-        reckoning.add(load(link, self.links.peers.weight(link), cache.held(link)))
+        reckoning.add(load(link, self.links.peers().weight(link), cache.held(link)))
     }
 
     /// Cuts off the links that hold most, the heaviest first, until no more is held than an eighth less than the limit. Returns
@@ -102,21 +103,19 @@ impl<W: World> Traffic<W> {
         let most = Holding::cuts_to(limit);
         let mut ranking = ranking;
         'loads: while let Some(heaviest) = ranking.take_heaviest(most) {
-            self.cut_off(heaviest.link);
+            self.cut_off(heaviest);
         }
         ranking.sum()
     }
 
     /// So much is held for a link that it is cut off: what is owed there is lost, and that is told in its turn, at once.
-    fn cut_off(&mut self, link: Receiver)
+    fn cut_off(&mut self, heaviest: Heaviest)
         ensures kept { KeepsPeers W.Stream.has_given W.Stream.has_got self.old.links.peers self.new.links.peers }
-        ensures others { OthersStay link self.old.links.peers self.new.links.peers }
+        ensures cut { IsCutOff heaviest.load.link self.new.links.peers }
+        ensures others { OthersStay heaviest.load.link self.old.links.peers self.new.links.peers }
     {
-        self.troubles.note(link, Trouble::Heavy);
-        match link {
-            Receiver::Client(number) => self.links.cut_off(number),
-            Receiver::Origin(forward) => self.links.lose_origin_now(forward, Reason::Held),
-        }
+        self.troubles.note(heaviest.link(), Trouble::Heavy);
+        self.links.cut_off(heaviest);
     }
 }
 

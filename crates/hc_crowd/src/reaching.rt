@@ -1,17 +1,15 @@
 //! Forwards get links to the origin.
 
-ghost use Rattle.std.specs.Prelude.{◌≡◌, ◌⊎◌, ◌+◌, ◌∷◌, [], ℕ, IfSome, None, Some, option_map, true};
+ghost use Rattle.std.specs.Prelude.{◌≡◌, ◌⊎◌, ◌+◌, ◌∷◌, [], ℕ, IfSome, None, Some, true};
 
 use crate::traffic::Traffic;
 use hc_agenda::Candidate;
 use hc_attended::World;
 use hc_events::Trouble;
 use hc_link_traits::Awaiting;
-use hc_order::{Reason, Receiver};
+use hc_order::Receiver;
 
 impl<W: World> Traffic<W> {
-    ghost use Rattle.std.specs.BTreeMap.{get};
-    ghost use Rattle.std.specs.Ordering.{nat_cmp};
     ghost use Rattle.hc_agenda.specs.Places.{IsNext, count_waiting, first_in, opened_in};
     ghost use Rattle.hc_crowd.specs.Courses.{is_late};
     ghost use Rattle.hc_order.specs.declared.occurrence.Reason.TheVariants.{Late};
@@ -23,7 +21,7 @@ impl<W: World> Traffic<W> {
         ensures kept { KeepsPeers W.Stream.has_given W.Stream.has_got self.old.links.peers self.new.links.peers }
         ensures sorted { opened_in self.new.links.peers.places ≡ [] }
     {
-        'opened: while let Some(forward) = self.links.peers.places.first_opened() {
+        'opened: while let Some(forward) = self.links.peers().places.first_opened() {
             self.sort(forward, cache.is_background(forward));
         }
     }
@@ -52,7 +50,7 @@ impl<W: World> Traffic<W> {
         ensures placed { IsNext self.new.links.peers.places None }
         ensures opened { opened_in self.new.links.peers.places ≡ opened_in self.old.links.peers.places }
     {
-        'places: while let Some(candidate) = self.links.peers.places.candidate() {
+        'places: while let Some(candidate) = self.links.peers().places.candidate() {
             self.give_place(candidate);
         }
     }
@@ -87,7 +85,7 @@ impl<W: World> Traffic<W> {
 
     /// How many links were begun for a forward; none for one that isn't there.
     pub(crate) fn attempts(&self, forward: u64) -> u32 {
-        match self.links.peers.forwards.get(forward) {
+        match self.links.peers().forwards.get(forward) {
             Some(kept) => kept.attempts(),
             None => 0,
         }
@@ -99,14 +97,5 @@ impl<W: World> Traffic<W> {
     {
         self.troubles
             .note(Receiver::Origin(forward), Trouble::Unreached);
-    }
-
-    /// A forward fails, which is told in its turn for that reason.
-    pub(crate) fn give_up(&mut self, forward: u64, trouble: Trouble, reason: Reason)
-        ensures kept { KeepsPeers W.Stream.has_given W.Stream.has_got self.old.links.peers self.new.links.peers }
-        ensures lost { lost_at forward self.new.links.peers.forwards.links ≡ option_map (λ _. reason) (get nat_cmp self.old.links.peers.forwards.links forward) }
-    {
-        self.troubles.note(Receiver::Origin(forward), trouble);
-        self.links.lose_origin(forward, reason);
     }
 }

@@ -100,7 +100,7 @@ impl<W: World> Traffic<W> {
         ensures gone { result ≡ true → NoLinkIsLeft self.now.links.peers }
         ensures asked { result ≡ true → ServesNoMore self.now.told.course W.stop_asked limits.clients (last_given self.now.links.peers) }
     {
-        !self.serves_more(limits) && self.links.peers.are_gone()
+        !self.serves_more(limits) && self.links.peers().are_gone()
     }
 
     /// That memory was refused for a note of what is to be done.

@@ -7,14 +7,15 @@ use crate::traffic::Traffic;
 use hc_agenda::Holding;
 use hc_attended::World;
 use hc_events::Happening;
-use hc_flow::{Heard, Pace, Patience};
+use hc_flow::{Heard, Pace};
 use hc_link_traits::{Awaiting, Happened};
 use hc_order::{Reason, Receiver};
 use hc_peers::{Hearing, happened};
 use std::alloc::AllocError;
 
 impl<W: World> Traffic<W> {
-    ghost use Rattle.hc_crowd.specs.Courses.{EndsUnbegun, FailsAt, HasGrounds, ends_idle, is_idle, is_over_for, is_over_in_any_case, stops};
+    ghost use Rattle.hc_crowd.specs.Courses.{EndsUnawaited, EndsUnbegun, FailsAt, HasGrounds, ends_idle, is_late, is_over_for, is_over_in_any_case, stops};
+    ghost use Rattle.hc_attended.specs.Grounds.{is_idle};
     ghost use Rattle.hc_agenda.specs.Turns.{IsFirstTurn};
     ghost use Rattle.hc_crowd.specs.Held.{HoldsAsWeighed};
     ghost use Rattle.hc_attended.specs.Tails.{KeepsTail};
@@ -41,7 +42,7 @@ impl<W: World> Traffic<W> {
         holding: &mut Holding,
     ) -> Result<Option<Happened>, AllocError>
         ensures heard { HearsWithin W.Stream.has_given W.Stream.has_got limits.connections (A.awaited cache.now) result self.old.links.peers self.new.links.peers }
-        ensures held { HoldsAsWeighed W.Stream (A.holds cache.now) limits.held holding.old holding.new }
+        ensures held { HoldsAsWeighed W.Stream.has_given W.Stream.has_got limits.connections (A.holds cache.now) limits.held self.old.links.peers holding.old holding.new }
     {
         self.note_incidents(cache);
         if self.announces_stop() {
@@ -54,7 +55,7 @@ impl<W: World> Traffic<W> {
         self.bound_held(cache, limits.held, holding)?;
         self.give_up_abandoned(cache, limits.abandoned)?;
         self.troubles.count_noted(cache);
-        if let Some(happened) = self.take_turns(cache, limits.patience)? {
+        if let Some(happened) = self.take_turns(cache)? {
             return Ok(Some(happened));
         }
         self.welcome(limits)
@@ -87,11 +88,7 @@ impl<W: World> Traffic<W> {
     }
 
     /// What is heard of the next link that has its turn in this batch, and of which something is heard.
-    fn take_turns<A: Awaiting>(
-        &mut self,
-        cache: &A,
-        patience: Patience,
-    ) -> Result<Option<Happened>, AllocError>
+    fn take_turns<A: Awaiting>(&mut self, cache: &A) -> Result<Option<Happened>, AllocError>
         ensures heard { Hears W.Stream.has_given W.Stream.has_got (A.awaited cache.now) result self.old.links.peers self.new.links.peers }
         ensures unbegun { EndsUnbegun (A.holds cache.now) result }
     {
@@ -99,7 +96,7 @@ impl<W: World> Traffic<W> {
             let Some(link) = self.links.agenda.turns.first() else {
                 return Ok(None);
             };
-            if let Some(happened) = self.turn(link, cache, patience)? {
+            if let Some(happened) = self.turn(link, cache)? {
                 return Ok(Some(happened));
             }
         }
@@ -111,17 +108,17 @@ impl<W: World> Traffic<W> {
         &mut self,
         link: Receiver,
         cache: &A,
-        patience: Patience,
     ) -> Result<Option<Happened>, AllocError>
         requires turn { IsFirstTurn (Some link) self.old.links.agenda.turns }
         ensures heard { Hears W.Stream.has_given W.Stream.has_got (A.awaited cache.now) result self.old.links.peers self.new.links.peers }
         ensures unbegun { EndsUnbegun (A.holds cache.now) result }
+        ensures unawaited { EndsUnawaited (A.awaited cache.now) (is_late self.old.told.course) result }
     {
         match link {
             Receiver::Client(number) => {
                 let awaited = cache.awaits(number);
                 let begun = cache.held(Receiver::Client(number)) > 0;
-                let heard = self.client_turn(number, awaited, begun, patience)?;
+                let heard = self.client_turn(number, awaited, begun)?;
                 Ok(happened(Receiver::Client(number), heard))
             }
             Receiver::Origin(forward) => {
@@ -134,28 +131,22 @@ impl<W: World> Traffic<W> {
 
     /// What is heard in the turn of a client, of whose requests one awaits its reply or none does, and of whose next request
     /// something has come or nothing.
-    fn client_turn(
-        &mut self,
-        number: u64,
-        awaited: bool,
-        begun: bool,
-        patience: Patience,
-    ) -> Result<Heard, AllocError>
+    fn client_turn(&mut self, number: u64, awaited: bool, begun: bool) -> Result<Heard, AllocError>
         requires turn { IsFirstTurn (Some (Client number)) self.old.links.agenda.turns }
         ensures heard { Hears W.Stream.has_given W.Stream.has_got (IsAnswerOf number awaited) (told (Client number) result) self.old.links.peers self.new.links.peers }
-        ensures reason { (hearing : Hearing) × HasGrounds self.old.told.course self.old.giving_way patience self.old.links.peers number begun hearing
+        ensures reason { (hearing : Hearing) × HasGrounds self.old.told.course self.old.giving_way self.old.links.times.patience self.old.links.peers number begun hearing
             × (hearing.awaited ≡ awaited) × (hearing.tick ≡ self.old.links.time.tick)
             × IsHeardFor hearing (is_cut_at number self.old.links.peers.clients.links) (FailsAt W.Stream.has_failed number self.old.links.peers self.new.links.peers) result }
         ensures at_once { is_open_at number self.old.links.peers.clients.links ≡ true → IsToldAtOnce (is_cut_at number self.old.links.peers.clients.links)
-            (is_over_in_any_case self.old.told.course self.old.links.peers number awaited self.old.links.time.tick patience) result }
+            (is_over_in_any_case self.old.told.course self.old.links.peers number awaited self.old.links.time.tick self.old.links.times.patience) result }
         // Where its time isn't over, nothing that is owed to it is lost, unless memory is refused.
-        ensures tail { is_over_for self.old.told.course self.old.links.peers number awaited self.old.links.time.tick patience ≡ false
+        ensures tail { is_over_for self.old.told.course self.old.links.peers number awaited self.old.links.time.tick self.old.links.times.patience ≡ false
             → IsErr result ⊎ KeepsTail W.Stream.has_failed (known_at number self.old.links.peers.clients.links) (known_at number self.new.links.peers.clients.links) }
     {
-        let hearing = self.hearing_of(number, awaited, begun, patience);
+        let hearing = self.hearing_of(number, awaited, begun);
         if self.is_closed(number) {
             self.links
-                .drop_rest_of_client(number, self.buffer.as_mut_slice(), hearing.late);
+                .drop_rest_of_client(number, self.buffer.as_mut_slice(), hearing);
             return Ok(Heard::Nothing);
         }
         self.links
@@ -163,13 +154,13 @@ impl<W: World> Traffic<W> {
     }
 
     /// What decides how a client is heard in its turn.
-    fn hearing_of(&self, number: u64, awaited: bool, begun: bool, patience: Patience) -> Hearing
-        ensures grounds { HasGrounds self.now.told.course self.now.giving_way patience self.now.links.peers number begun result }
+    fn hearing_of(&self, number: u64, awaited: bool, begun: bool) -> Hearing
+        ensures grounds { HasGrounds self.now.told.course self.now.giving_way self.now.links.times.patience self.now.links.peers number begun result }
         ensures awaited { result.awaited ≡ awaited }
         ensures tick { result.tick ≡ self.now.links.time.tick }
-        ensures sure { is_over_in_any_case self.now.told.course self.now.links.peers number awaited self.now.links.time.tick patience ≡ true → result.late ≡ true }
+        ensures sure { is_over_in_any_case self.now.told.course self.now.links.peers number awaited self.now.links.time.tick self.now.links.times.patience ≡ true → result.late ≡ true }
     {
-        let late = self.is_over_for(number, awaited, patience);
+        let late = self.is_over_for(number, awaited);
         let stops = self.is_stopped(number, begun);
         let gives_way = self.gives_way(number, begun);
         Hearing {
@@ -207,7 +198,7 @@ impl<W: World> Traffic<W> {
     fn is_silent(&self, number: u64) -> bool
         ensures { result ≡ true → is_idle self.now.links.peers number ≡ true }
     {
-        let Some(client) = self.links.peers.clients.get(number) else {
+        let Some(client) = self.links.peers().clients.get(number) else {
             return false;
         };
         match client.pace() {
@@ -219,9 +210,9 @@ impl<W: World> Traffic<W> {
 
     /// Whether there is no more time for a client: behind a stop, or, where no request of it awaits its reply, by how it is
     /// getting on. Of one that was idle for too long octets may have come already: these are read.
-    fn is_over_for(&self, number: u64, awaited: bool, patience: Patience) -> bool
-        ensures only { result ≡ true → is_over_for self.now.told.course self.now.links.peers number awaited self.now.links.time.tick patience ≡ true }
-        ensures always { is_over_in_any_case self.now.told.course self.now.links.peers number awaited self.now.links.time.tick patience ≡ true → result ≡ true }
+    fn is_over_for(&self, number: u64, awaited: bool) -> bool
+        ensures only { result ≡ true → is_over_for self.now.told.course self.now.links.peers number awaited self.now.links.time.tick self.now.links.times.patience ≡ true }
+        ensures always { is_over_in_any_case self.now.told.course self.now.links.peers number awaited self.now.links.time.tick self.now.links.times.patience ≡ true → result ≡ true }
     {
         if self.told.course.is_late() {
             return true;
@@ -229,8 +220,8 @@ impl<W: World> Traffic<W> {
         !awaited
             && self
                 .links
-                .peers
-                .is_overdue(number, self.links.time.tick, patience)
+                .peers()
+                .is_overdue(number, self.links.time.tick, self.links.patience())
             && !self.is_back(number)
     }
 
@@ -238,7 +229,7 @@ impl<W: World> Traffic<W> {
     fn is_back(&self, number: u64) -> bool
         ensures { result ≡ true → is_idle self.now.links.peers number ≡ true }
     {
-        let Some(client) = self.links.peers.clients.get(number) else {
+        let Some(client) = self.links.peers().clients.get(number) else {
             return false;
         };
         match client.pace() {
@@ -252,7 +243,7 @@ impl<W: World> Traffic<W> {
     pub(crate) fn is_closed(&self, number: u64) -> bool
         ensures { result ≡ is_there_and (get nat_cmp self.now.links.peers.clients.links number) (λ client. client.closed) }
     {
-        match self.links.peers.clients.get(number) {
+        match self.links.peers().clients.get(number) {
             Some(client) => client.is_closed(),
             None => false,
         }
@@ -264,12 +255,12 @@ impl<W: World> Traffic<W> {
         requires turn { IsFirstTurn (Some (Origin forward)) self.old.links.agenda.turns }
         ensures heard { Hears W.Stream.has_given W.Stream.has_got NoAnswer (told (Origin forward) result) self.old.links.peers self.new.links.peers }
     {
-        if self.links.peers.lingering.has(forward) {
+        if self.links.peers().lingering.has(forward) {
             self.links
                 .drop_rest_of_origin(forward, self.buffer.as_mut_slice());
             return Ok(Heard::Nothing);
         }
-        if self.links.peers.can_retry(forward) {
+        if self.links.peers().can_retry(forward) {
             self.retry(forward);
             return Ok(Heard::Nothing);
         }
@@ -296,7 +287,7 @@ impl<W: World> Traffic<W> {
         ensures heard { Hears W.Stream.has_given W.Stream.has_got NoAnswer (told (Origin forward) result) self.old.links.peers self.new.links.peers }
         ensures reason { IsLossOf (get nat_cmp self.old.links.peers.forwards.links forward) result }
     {
-        let was_linked = self.links.peers.is_linked(forward);
+        let was_linked = self.links.peers().is_linked(forward);
         let heard = self.links.hear_origin(forward, self.buffer.as_mut_slice());
         self.troubles
             .note_break(forward, was_linked & is_loss(&heard));

@@ -17,7 +17,7 @@ impl<W: World> Traffic<W> {
         requires full { HasRoom self.old.links.peers most → ⊥ }
         ensures kept { KeepsPeers W.Stream.has_given W.Stream.has_got self.old.links.peers self.new.links.peers }
     {
-        if !self.links.peers.may_turn_away() {
+        if !self.links.peers().may_turn_away() {
             return false;
         }
         let Some(stream) = self.arrival(guest) else {
@@ -31,8 +31,8 @@ impl<W: World> Traffic<W> {
     pub(crate) fn drop_all_turned_away(&mut self)
         ensures kept { KeepsPeers W.Stream.has_given W.Stream.has_got self.old.links.peers self.new.links.peers }
     {
-        'turned_away: for _ in 0..self.links.peers.turned_away.len() {
-            let Some(guest) = self.links.peers.turned_away.first_from(0) else {
+        'turned_away: for _ in 0..self.links.peers().turned_away.len() {
+            let Some(guest) = self.links.peers().turned_away.first_from(0) else {
                 return;
             };
             self.links.drop_turned_away(guest);

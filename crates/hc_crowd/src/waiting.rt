@@ -8,7 +8,7 @@ use crate::traffic::Traffic;
 use hc_agenda::earlier;
 use hc_attended::{Ready, World};
 use hc_flow::Readiness;
-use hc_order::{Reason, Receiver};
+use hc_order::Receiver;
 
 /// So many milliseconds are waited for at once at most: then clocks are read again.
 const LONGEST_WAIT: u64 = 1_000;
@@ -19,6 +19,7 @@ const IDLE_MAY_ASK: u64 = 1_000;
 impl<W: World> Traffic<W> {
     ghost use Rattle.hc_crowd.specs.Courses.{stops};
     ghost use Rattle.hc_peers.specs.Keeping.{KeepsPeers};
+    ghost use Rattle.hc_attended.specs.Worlds.{IsTold};
 
     /// Waits until something is ready or due, and takes in what is. Then a new batch begins.
     pub(crate) fn wait(&mut self, limits: Limits)
@@ -76,6 +77,7 @@ impl<W: World> Traffic<W> {
 
     /// Takes in that this became ready.
     fn take_in(&mut self, ready: Ready, abandoned: u64)
+        requires told { IsTold W.tells_of ready }
         ensures kept { KeepsPeers W.Stream.has_given W.Stream.has_got self.old.links.peers self.new.links.peers }
     {
         match ready {
@@ -105,6 +107,7 @@ impl<W: World> Traffic<W> {
 
     /// Takes in what the system tells of a link.
     fn learn(&mut self, link: Receiver, readiness: Readiness, abandoned: u64)
+        requires told { W.tells_of link readiness ≡ true }
         ensures kept { KeepsPeers W.Stream.has_given W.Stream.has_got self.old.links.peers self.new.links.peers }
     {
         match link {
@@ -196,8 +199,8 @@ impl<W: World> Traffic<W> {
         ensures kept { KeepsPeers W.Stream.has_given W.Stream.has_got self.old.links.peers self.new.links.peers }
     {
         let mut least = 0;
-        'clients: for _ in 0..self.links.peers.clients.len() {
-            let Some(number) = self.links.peers.clients.first_from(least) else {
+        'clients: for _ in 0..self.links.peers().clients.len() {
+            let Some(number) = self.links.peers().clients.first_from(least) else {
                 return;
             };
             self.links.give_turn(Receiver::Client(number));
@@ -207,14 +210,15 @@ impl<W: World> Traffic<W> {
 
     /// All forwards fail, since their time is over.
     fn lose_origins(&mut self)
+        requires asked { W.stop_asked ≡ true }
         ensures kept { KeepsPeers W.Stream.has_given W.Stream.has_got self.old.links.peers self.new.links.peers }
     {
         let mut least = 0;
-        'forwards: for _ in 0..self.links.peers.forwards.len() {
-            let Some(forward) = self.links.peers.forwards.first_from(least) else {
+        'forwards: for _ in 0..self.links.peers().forwards.len() {
+            let Some(forward) = self.links.peers().forwards.first_from(least) else {
                 return;
             };
-            self.links.lose_origin(forward, Reason::Late);
+            self.links.lose_late(forward);
             least = forward.saturating_add(1);
         }
     }
@@ -223,8 +227,8 @@ impl<W: World> Traffic<W> {
     fn drop_all_lingering(&mut self)
         ensures kept { KeepsPeers W.Stream.has_given W.Stream.has_got self.old.links.peers self.new.links.peers }
     {
-        'lingering: for _ in 0..self.links.peers.lingering.len() {
-            let Some(forward) = self.links.peers.lingering.first_from(0) else {
+        'lingering: for _ in 0..self.links.peers().lingering.len() {
+            let Some(forward) = self.links.peers().lingering.first_from(0) else {
                 return;
             };
             self.links.drop_lingering(forward);

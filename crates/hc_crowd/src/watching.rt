@@ -1,6 +1,6 @@
 //! Deadlines: who is looked at, and when.
 
-ghost use Rattle.std.specs.Prelude.{◌≡◌, ◌≤◌};
+ghost use Rattle.std.specs.Prelude.{◌≡◌, true};
 
 use crate::traffic::Traffic;
 use hc_agenda::{Deadline, Timeout};
@@ -10,6 +10,7 @@ use hc_order::Receiver;
 
 impl<W: World> Traffic<W> {
     ghost use Rattle.hc_peers.specs.Keeping.{KeepsPeers};
+    ghost use Rattle.hc_attended.specs.Notes.{is_due_up_to};
 
     /// Takes in all that is due.
     pub(crate) fn pass_all(&mut self)
@@ -37,9 +38,9 @@ impl<W: World> Traffic<W> {
         }
     }
 
-    /// A deadline has come. Nothing is done where the link has gone or moved on.
+    /// A deadline that stands in the agenda has come. Nothing is done where the link has gone or moved on.
     fn end_time(&mut self, deadline: Deadline)
-        requires due { deadline.tick ≤ self.old.links.time.tick }
+        requires due { is_due_up_to deadline.timeout deadline.number self.old.links.time.tick self.old.links.agenda ≡ true }
         ensures kept { KeepsPeers W.Stream.has_given W.Stream.has_got self.old.links.peers self.new.links.peers }
     {
         let number = deadline.number;

@@ -40,7 +40,7 @@ impl<W: World> Traffic<W> {
     fn answer(&mut self, guest: u64, limits: Limits) -> Result<Option<Happened>, AllocError>
         ensures heard { HearsWithin W.Stream.has_given W.Stream.has_got limits.connections NoAnswer result self.old.links.peers self.new.links.peers }
     {
-        match self.links.peers.guests.peek(guest) {
+        match self.links.peers().guests.peek(guest) {
             Presence::Octets => self.admit(guest, limits),
             Presence::Later => {
                 self.keep_waiting(guest);
@@ -88,10 +88,10 @@ impl<W: World> Traffic<W> {
             → ShowNoMore W.Stream.has_got self.new.links.peers log }
     {
         let mut stream = stream;
-        if !self.links.peers.may_open(limits.connections) {
+        if !self.links.peers().may_open(limits.connections) {
             return Ok(None);
         }
-        let Some(number) = self.links.peers.next_number() else {
+        let Some(number) = self.links.peers().next_number() else {
             return Ok(None);
         };
         if !self.world.rename(&mut stream, number) {
@@ -130,8 +130,8 @@ impl<W: World> Traffic<W> {
         ensures kept { KeepsPeers W.Stream.has_given W.Stream.has_got self.old.links.peers self.new.links.peers }
     {
         let mut least = 0;
-        'guests: for _ in 0..self.links.peers.guests.len() {
-            let Some(guest) = self.links.peers.guests.first_from(least) else {
+        'guests: for _ in 0..self.links.peers().guests.len() {
+            let Some(guest) = self.links.peers().guests.first_from(least) else {
                 return;
             };
             self.links.knock(guest);
@@ -143,8 +143,8 @@ impl<W: World> Traffic<W> {
     pub(crate) fn let_all_guests_go(&mut self)
         ensures kept { KeepsPeers W.Stream.has_given W.Stream.has_got self.old.links.peers self.new.links.peers }
     {
-        'guests: for _ in 0..self.links.peers.guests.len() {
-            let Some(guest) = self.links.peers.guests.first_from(0) else {
+        'guests: for _ in 0..self.links.peers().guests.len() {
+            let Some(guest) = self.links.peers().guests.first_from(0) else {
                 return;
             };
             self.links.let_guest_go(guest);

@@ -19,8 +19,7 @@ use Rattle.hc_order.specs.declared.receiver.Receiver.{Receiver}
 use Rattle.hc_order.specs.declared.receiver.Receiver.TheVariants.{Client as to_client, Origin as to_origin}
 use Rattle.hc_peers.specs.Forwards.{is_linked_and, is_waiting, spare_behind}
 use Rattle.hc_peers.specs.Leaving.{left_behind}
-use Rattle.hc_peers.specs.Lingering.{is_lingering}
-use Rattle.hc_peers.specs.Tables.{KeepsOthers, is_there_and}
+use Rattle.hc_peers.specs.Tables.{is_there_and}
 use Rattle.hc_peers.specs.Times.{pace_behind, progress_behind}
 use Rattle.hc_peers.specs.declared.client.Client.{Client}
 use Rattle.hc_peers.specs.declared.client.Hearing.{Hearing}
@@ -30,7 +29,6 @@ use Rattle.hc_peers.specs.declared.forward.Reaching.TheVariants.{Waiting, Linked
 use Rattle.hc_peers.specs.declared.lingerer.Lingerer.{Lingerer}
 use Rattle.hc_peers.specs.declared.origin_link.OriginLink.{OriginLink}
 use Rattle.hc_peers.specs.declared.peers.Peers.{Peers}
-use Rattle.hc_peers.specs.declared.table.Table.{Table}
 
 -- both are there, and the one is what a call leaves of the other; or neither is there
 abbrev pub Behind : {V : Type 0} → (V → V → Type 0) → Option V → Option V → Type 0
@@ -93,6 +91,8 @@ pub record ClientIsDropped {S : Type 0} (over : Bool) (before after : Client S) 
   pub rest : after ≡ record before { flow = after.flow }
   pub works : before.closed ≡ true → over ≡ false → after.flow.failed ≡ false
   pub owed : is_owed after.flow ≡ true → is_owed before.flow ≡ true
+  -- what is owed is lost only where its link fails
+  pub waits : after.flow.failed ≡ false → after.flow.outbox ≡ before.flow.outbox
   pub writable : after.flow.writable ≡ before.flow.writable
 
 -- its link is lost: nothing is owed to it any more

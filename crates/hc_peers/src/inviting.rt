@@ -23,6 +23,7 @@ impl<S: Stream + Drop> Peers<S> {
     pub fn next_guest(&mut self) -> Option<u64>
         ensures kept { KeepsPeers S.has_given S.has_got self.old self.new }
         ensures number { GivesNumber result self.old.guests.last self.new.guests.last }
+        ensures table { self.new.guests.table ≡ self.old.guests.table }
         ensures rest { self.new ≡ record self.old { guests = self.new.guests } }
     {
         self.guests.next_number()

@@ -8,7 +8,7 @@ pub returns-clause-kept : goal.returns-clause-kept
 returns-clause-kept g c = keeps_then c.discard.ensures.kept c.let_go.ensures.kept
 
 pub returns-clause-tail : goal.returns-clause-tail
-returns-clause-tail g c = tail_kept g.S.Stream.has_failed _ _ _ c.discard.ensures.fails c.let_go.ensures.goes
+returns-clause-tail g c = tail_kept g.S.Stream.has_failed c.args.number c.discard.result c.args.peers.now c.discard.new.self _ c.discard.ensures.behind c.discard.ensures.fails c.let_go.ensures.goes
 
 pub returns-clause-tends : goal.returns-clause-tends
 returns-clause-tends g c = λ times tick.

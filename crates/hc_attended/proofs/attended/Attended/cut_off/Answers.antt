@@ -1,16 +1,12 @@
-use Rattle.hc_attended.proofs.AttendedLemmas.{client_cut_off}
-use Rattle.hc_attended.proofs.KeepingLemmas.{keeps_then}
-use Rattle.hc_attended.proofs.TendLemmas.{client_only}
+use Rattle.hc_attended.proofs.NoteLemmas.{notes_same}
+use Rattle.hc_attended.proofs.StepLemmas.{call_attended, none_moved}
 use Rattle.hc_attended.proofs.attended.Attended.cut_off.Goals as goal
 
 pub invariant_of-self : goal.invariant_of-self
 invariant_of-self g c =
-    let now = c.args.self.now in
+    let s = c.args.self.now in
+    let f = c.in-Origin.forward in
     record {
-      noted = client_cut_off now.times now.time.tick now.peers c.cut_off.new.self c.queue.new.self now.agenda c.give_turn_now.new.self c.args.number
-          (client_only c.args.number now.peers c.cut_off.new.self c.cut_off.ensures.only) (client_only c.args.number c.cut_off.new.self c.queue.new.self c.queue.ensures.only)
-          c.cut_off.ensures.behind c.queue.ensures.queued c.give_turn_now.ensures now.noted;
+      noted = call_attended s.times s.time.tick f s.peers c.lose_now.new.peers s.agenda s.agenda c.lose_now.new.agenda (none_moved f (notes_same s.agenda)) c.lose_now.ensures.only c.lose_now.ensures.absent
+          (none_moved f c.lose_now.ensures.notes) (λ ok marked. c.lose_now.ensures.seen ok) (λ ok. c.lose_now.ensures.timed s.times s.time.tick) s.noted;
     }
-
-pub returns-clause-kept : goal.returns-clause-kept
-returns-clause-kept g c = keeps_then c.cut_off.ensures.kept c.queue.ensures.kept

@@ -8,5 +8,5 @@ invariant_of-self g c =
       noted = λ none. turned_away_kept s.times s.time.tick s.peers c.discard_turned_away.new.self s.agenda c.args.guest (c.discard_turned_away.ensures.rest, c.discard_turned_away.ensures.others) c.discard_turned_away.ensures.there (s.noted none);
     }
 
-pub returns-then-discard_turned_away : goal.returns-then-discard_turned_away
-returns-then-discard_turned_away g c = record { kept = keeps_then c.discard_turned_away.ensures.kept c.drop_turned_away.ensures.kept }
+pub returns-then-discard_turned_away-clause-kept : goal.returns-then-discard_turned_away-clause-kept
+returns-then-discard_turned_away-clause-kept g c = keeps_then c.discard_turned_away.ensures.kept c.drop_turned_away.ensures.kept

@@ -16,5 +16,5 @@ invariant_of-self g c =
           dropped.ensures.only dropped.ensures.gains dropped.ensures.notes dropped.ensures.stands c.free_place.ensures.frees s.noted;
     }
 
-pub returns : goal.returns
-returns g c = record { kept = keeps_then c.drop_rest.ensures.kept c.free_place.ensures.kept }
+pub returns-clause-kept : goal.returns-clause-kept
+returns-clause-kept g c = keeps_then c.drop_rest.ensures.kept c.free_place.ensures.kept

@@ -1,7 +1,7 @@
 use Rattle.hc_attended.proofs.AttendedLemmas.{client_seen}
 use Rattle.hc_attended.proofs.ClientLemmas.{tends_begun, tends_heard}
 use Rattle.hc_attended.proofs.KeepingLemmas.{hears_then, then_hears}
-use Rattle.hc_attended.proofs.TendLemmas.{client_only, tends_then}
+use Rattle.hc_attended.proofs.TendLemmas.{client_changes_then, client_only, tends_then}
 use Rattle.hc_attended.proofs.attended.Attended.hear_client.Goals as goal
 
 pub invariant_of-self : goal.invariant_of-self
@@ -17,3 +17,11 @@ invariant_of-self g c =
 
 pub returns-clause-heard : goal.returns-clause-heard
 returns-clause-heard g c = hears_then (then_hears c.begin_turn.ensures.kept c.hear_client-heard.ensures.heard) c.see_to_client.ensures.kept
+
+pub returns-clause-only : goal.returns-clause-only
+returns-clause-only g c =
+    let n = c.args.number in
+    let now = c.args.self.now in
+    client_changes_then n now.peers c.hear_client-heard.new.self c.see_to_client.new.peers
+    (client_changes_then n now.peers c.begin_turn.new.peers c.hear_client-heard.new.self (client_only n now.peers c.begin_turn.new.peers c.begin_turn.ensures.only) (client_only n c.begin_turn.new.peers c.hear_client-heard.new.self c.hear_client-heard.ensures.only))
+    (c.see_to_client.ensures.tends now.times).only

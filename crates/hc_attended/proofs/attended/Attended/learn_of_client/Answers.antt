@@ -1,7 +1,9 @@
+use Rattle.std.proofs.Common.{◌≡◌, true}
 use Rattle.hc_attended.proofs.AttendedLemmas.{client_seen}
 use Rattle.hc_attended.proofs.ClientLemmas.{tends_learned}
+use Rattle.hc_attended.proofs.GroundLemmas.{client_fails_known}
 use Rattle.hc_attended.proofs.KeepingLemmas.{keeps_then}
-use Rattle.hc_attended.proofs.TendLemmas.{client_only}
+use Rattle.hc_attended.proofs.TendLemmas.{client_changes_then, client_only}
 use Rattle.hc_attended.proofs.attended.Attended.learn_of_client.Goals as goal
 
 pub invariant_of-self : goal.invariant_of-self
@@ -14,4 +16,10 @@ invariant_of-self g c =
     }
 
 pub returns : goal.returns
-returns g c = record { kept = keeps_then c.learn.ensures.kept c.see_to_client.ensures.kept }
+returns g c =
+    let now = c.args.self.now in
+    record {
+      kept = keeps_then c.learn.ensures.kept c.see_to_client.ensures.kept;
+      fails = client_fails_known g.W.Stream.Stream.has_failed (c.args.readiness.failed ≡ true) c.args.number now.peers c.learn.new.peers c.see_to_client.new.peers c.learn.ensures.fails c.see_to_client.ensures.known;
+      only = client_changes_then c.args.number now.peers c.learn.new.peers c.see_to_client.new.peers (client_only c.args.number now.peers c.learn.new.peers c.learn.ensures.only) (c.see_to_client.ensures.tends now.times).only;
+    }

@@ -17,3 +17,9 @@ invariant_of-self-else-let_go g c =
     record {
       noted = client_left now.times now.time.tick now.peers c.let_go.new.peers now.agenda c.let_go.new.agenda c.forget.new.self c.args.number (c.let_go.ensures.tends now.times now.time.tick).only stays.0 stays.1 stays.2 c.forget.ensures now.noted;
     }
+
+pub returns-then-let_go-clause-only : goal.returns-then-let_go-clause-only
+returns-then-let_go-clause-only g c = (c.let_go.ensures.tends c.args.self.now.times c.args.self.now.time.tick).only
+
+pub returns-else-let_go-clause-only : goal.returns-else-let_go-clause-only
+returns-else-let_go-clause-only g c = (c.let_go.ensures.tends c.args.self.now.times c.args.self.now.time.tick).only

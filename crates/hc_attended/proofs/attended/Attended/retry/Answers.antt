@@ -13,5 +13,5 @@ invariant_of-self g c =
           linked.ensures.timed s.noted;
     }
 
-pub returns : goal.returns
-returns g c = record { kept = keeps_then c.begin_turn.ensures.kept (keeps_then c.retry.ensures.kept (c.link_or_lose.ensures.kept c.connect-stream.ensures)) }
+pub returns-clause-kept : goal.returns-clause-kept
+returns-clause-kept g c = keeps_then c.begin_turn.ensures.kept (keeps_then c.retry.ensures.kept (c.link_or_lose.ensures.kept c.connect-stream.ensures))

@@ -1,4 +1,5 @@
 use Rattle.std.proofs.lemmas.Result.{err_from_is_err_and}
+use Rattle.hc_attended.proofs.GroundLemmas.{sends_alone, sends_nothing, sends_safely, served_alone}
 use Rattle.hc_attended.proofs.OwingLemmas.{sent_to}
 use Rattle.hc_attended.proofs.attended.Attended.send.Goals as goal
 
@@ -17,3 +18,15 @@ returns-clause-tells g c = λ bounds log t. c.send.ensures.sent bounds log (c.ma
 
 pub returns-clause-shown : goal.returns-clause-shown
 returns-clause-shown g c = λ log s. c.send.ensures.shown log (c.make_ready.ensures.kept.shown log s)
+
+pub returns-in_err-make_ready-clause-fails : goal.returns-in_err-make_ready-clause-fails
+returns-in_err-make_ready-clause-fails g c = sends_nothing g.W.Stream.Stream.has_failed c.args.to c.args.self.now.peers c.make_ready.new.self.peers c.make_ready.ensures.served
+
+pub returns-clause-fails : goal.returns-clause-fails
+returns-clause-fails g c = sends_safely g.W.Stream.Stream.has_failed c.args.to _ c.args.self.now.peers c.make_ready.new.self.peers c.send.new.self c.make_ready.ensures.served c.send.ensures.client
+
+pub returns-in_err-make_ready-clause-others : goal.returns-in_err-make_ready-clause-others
+returns-in_err-make_ready-clause-others g c = served_alone g.W.Stream.Stream.has_failed c.args.to c.args.self.now.peers c.make_ready.new.self.peers c.make_ready.ensures.served
+
+pub returns-clause-others : goal.returns-clause-others
+returns-clause-others g c = sends_alone g.W.Stream.Stream.has_failed c.args.to c.args.self.now.peers c.make_ready.new.self.peers c.send.new.self c.make_ready.ensures.served c.send.ensures.only

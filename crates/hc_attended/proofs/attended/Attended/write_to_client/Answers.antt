@@ -1,7 +1,8 @@
 use Rattle.std.proofs.Common.{◌∙◌}
 use Rattle.hc_order.specs.declared.receiver.Receiver.TheVariants.{Client}
+use Rattle.hc_attended.proofs.GroundLemmas.{client_fails_known}
 use Rattle.hc_attended.proofs.OwingLemmas.{client_written, first_taken}
-use Rattle.hc_attended.proofs.TendLemmas.{client_only}
+use Rattle.hc_attended.proofs.TendLemmas.{client_changes_then, client_only}
 use Rattle.hc_attended.proofs.attended.Attended.write_to_client.Goals as goal
 
 pub invariant_of-self : goal.invariant_of-self
@@ -18,3 +19,13 @@ returns-clause-tells g c = λ bounds log t. c.see_to_client.ensures.kept.tells b
 
 pub returns-clause-places : goal.returns-clause-places
 returns-clause-places g c = (c.see_to_client.ensures.tends c.args.self.now.times).only.places ∙ (client_only c.args.number c.args.self.now.peers c.write.new.self c.write.ensures.only).places
+
+pub returns-clause-fails : goal.returns-clause-fails
+returns-clause-fails g c = client_fails_known g.W.Stream.Stream.has_failed ⊥ c.args.number c.args.self.now.peers c.write.new.self c.see_to_client.new.peers c.write.ensures.fails c.see_to_client.ensures.known
+
+pub returns-clause-others : goal.returns-clause-others
+returns-clause-others g c =
+    let n = c.args.number in
+    let now = c.args.self.now in
+    let both = client_changes_then n now.peers c.write.new.self c.see_to_client.new.peers (client_only n now.peers c.write.new.self c.write.ensures.only) (c.see_to_client.ensures.tends now.times).only in
+    (both.clients, both.forwards)

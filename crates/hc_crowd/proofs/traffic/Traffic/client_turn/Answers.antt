@@ -4,7 +4,7 @@ use Rattle.hc_peers.specs.Heard.{IsAnswerOf, told}
 use Rattle.hc_peers.specs.Keeping.{Hears}
 use Rattle.hc_attended.proofs.KeepingLemmas.{hears_nothing}
 use Rattle.hc_attended.proofs.TailLemmas.{tail_or_refused}
-use Rattle.hc_crowd.proofs.TailLemmas.{not_over}
+use Rattle.hc_crowd.proofs.TailLemmas.{may_end, not_over}
 use Rattle.hc_crowd.proofs.traffic.Traffic.client_turn.Goals as goal
 
 pub returns-then-is_closed-clause-heard : goal.returns-then-is_closed-clause-heard
@@ -17,10 +17,22 @@ returns-clause-heard g c =
 
 pub returns-then-is_closed-clause-tail : goal.returns-then-is_closed-clause-tail
 returns-then-is_closed-clause-tail g c = λ over. inr
-    (c.drop_rest_of_client.ensures.tail (not_over c.args.self.now.told.course c.args.self.now.links.peers c.args.number c.args.patience _ _ _ _ _ c.hearing_of-hearing.ensures.awaited c.hearing_of-hearing.ensures.tick c.hearing_of-hearing.ensures.grounds.late over))
+    (c.drop_rest_of_client.ensures.tail (not_over c.args.self.now.told.course c.args.self.now.links.peers c.args.number c.args.self.now.links.times.patience _ _ _ _ _ c.hearing_of-hearing.ensures.awaited c.hearing_of-hearing.ensures.tick c.hearing_of-hearing.ensures.grounds.late over))
 
 pub returns-clause-tail : goal.returns-clause-tail
 returns-clause-tail g c = λ over.
     tail_or_refused g.W.Stream.Stream.has_failed c.hearing_of-hearing.result.late c.hear_client.result _ _
-    (not_over c.args.self.now.told.course c.args.self.now.links.peers c.args.number c.args.patience _ _ _ _ _ c.hearing_of-hearing.ensures.awaited c.hearing_of-hearing.ensures.tick c.hearing_of-hearing.ensures.grounds.late over)
+    (not_over c.args.self.now.told.course c.args.self.now.links.peers c.args.number c.args.self.now.links.times.patience _ _ _ _ _ c.hearing_of-hearing.ensures.awaited c.hearing_of-hearing.ensures.tick c.hearing_of-hearing.ensures.grounds.late over)
     c.hear_client.ensures.fails
+
+pub drop_rest_of_client-requires-clause-grounds : goal.drop_rest_of_client-requires-clause-grounds
+drop_rest_of_client-requires-clause-grounds g c =
+    let now = c.args.self.now in
+    may_end now.told.course g.W.World.stop_asked now.giving_way now.links.times.patience now.links.time.tick now.links.peers c.args.number c.args.begun c.hearing_of-hearing.result now.told.asked
+    c.hearing_of-hearing.ensures.tick c.hearing_of-hearing.ensures.grounds
+
+pub hear_client-requires-clause-grounds : goal.hear_client-requires-clause-grounds
+hear_client-requires-clause-grounds g c =
+    let now = c.args.self.now in
+    may_end now.told.course g.W.World.stop_asked now.giving_way now.links.times.patience now.links.time.tick now.links.peers c.args.number c.args.begun c.hearing_of-hearing.result now.told.asked
+    c.hearing_of-hearing.ensures.tick c.hearing_of-hearing.ensures.grounds

@@ -4,9 +4,9 @@ use Rattle.std.specs.declared.alloc.AllocError.{AllocError}
 use Rattle.hc_link_traits.specs.declared.happened.Happened.{Happened}
 use Rattle.hc_peers.specs.Keeping.{Hears}
 use Rattle.hc_peers.specs.Known.{is_cut_at}
-use Rattle.hc_crowd.specs.Courses.{EndsUnbegun, FailsAt}
+use Rattle.hc_crowd.specs.Courses.{EndsUnawaited, EndsUnbegun, FailsAt, is_late}
 use Rattle.hc_attended.proofs.KeepingLemmas.{hears_at_once, hears_by_answer}
-use Rattle.hc_crowd.proofs.TurnLemmas.{client_ends, forward_ends}
+use Rattle.hc_crowd.proofs.TurnLemmas.{client_ends, client_ends_in_time, forward_ends, forward_ends_in_time}
 use Rattle.hc_crowd.proofs.traffic.Traffic.turn.Goals as goal
 
 pub returns-in_ok-heard-in-Client-clause-heard : goal.returns-in_ok-heard-in-Client-clause-heard
@@ -49,3 +49,25 @@ returns-in_ok-heard-in-Origin-clause-unbegun g c =
 
 pub returns-in_err-heard-in-Origin-clause-unbegun : goal.returns-in_err-heard-in-Origin-clause-unbegun
 returns-in_err-heard-in-Origin-clause-unbegun g c = let p = err_from_is_err_and c.from_residual-in_err-heard-in-Origin.result c.from_residual-in_err-heard-in-Origin.ensures.1 in rw p.1 tt
+
+pub returns-in_ok-heard-in-Client-clause-unawaited : goal.returns-in_ok-heard-in-Client-clause-unawaited
+returns-in_ok-heard-in-Client-clause-unawaited g c =
+    let now = c.args.self.now in
+    let awaited = g.A.Awaiting.awaited c.args.cache.now in
+    let heard = c.in_ok-heard-in-Client.ensures.reason in
+    subst (λ (r : Result (Option Happened) AllocError). EndsUnawaited awaited (is_late now.told.course) r) (sym c.happened.ensures)
+    (client_ends_in_time awaited c.in-Client.number now.told.course now.links.peers now.links.times.patience heard.0 (is_cut_at c.in-Client.number now.links.peers.clients.links)
+    (FailsAt g.W.Stream.Stream.has_failed c.in-Client.number now.links.peers c.client_turn.new.self.links.peers) (Ok c.in_ok-heard-in-Client.heard)
+    (subst (awaited c.in-Client.number) (sym heard.2) c.awaits-awaited.ensures) heard.1.late heard.4)
+
+pub returns-in_err-heard-in-Client-clause-unawaited : goal.returns-in_err-heard-in-Client-clause-unawaited
+returns-in_err-heard-in-Client-clause-unawaited g c = let p = err_from_is_err_and c.from_residual.result c.from_residual.ensures.1 in rw p.1 tt
+
+pub returns-in_ok-heard-in-Origin-clause-unawaited : goal.returns-in_ok-heard-in-Origin-clause-unawaited
+returns-in_ok-heard-in-Origin-clause-unawaited g c =
+    let awaited = g.A.Awaiting.awaited c.args.cache.now in
+    subst (λ (r : Result (Option Happened) AllocError). EndsUnawaited awaited (is_late c.args.self.now.told.course) r) (sym c.happened-in-Origin.ensures)
+    (forward_ends_in_time awaited c.in-Origin.forward (is_late c.args.self.now.told.course) (Ok c.in_ok-heard-in-Origin.heard))
+
+pub returns-in_err-heard-in-Origin-clause-unawaited : goal.returns-in_err-heard-in-Origin-clause-unawaited
+returns-in_err-heard-in-Origin-clause-unawaited g c = let p = err_from_is_err_and c.from_residual-in_err-heard-in-Origin.result c.from_residual-in_err-heard-in-Origin.ensures.1 in rw p.1 tt

@@ -1,6 +1,6 @@
 use Rattle.hc_attended.proofs.NoteLemmas.{notes_same}
 use Rattle.hc_attended.proofs.StepLemmas.{call_attended, none_moved}
-use Rattle.hc_attended.proofs.attended.Attended.lose_origin.Goals as goal
+use Rattle.hc_attended.proofs.attended.Attended.give_up.Goals as goal
 
 pub invariant_of-self : goal.invariant_of-self
 invariant_of-self g c =

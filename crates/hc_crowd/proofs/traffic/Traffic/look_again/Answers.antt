@@ -1,5 +1,5 @@
 use Rattle.hc_crowd.proofs.SweepLemmas.{sweep_attended}
-use Rattle.hc_crowd.proofs.traffic.Traffic.look_again_if.Goals as goal
+use Rattle.hc_crowd.proofs.traffic.Traffic.look_again.Goals as goal
 
 pub invariant_of-self : goal.invariant_of-self
 invariant_of-self g c =
