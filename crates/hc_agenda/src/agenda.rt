@@ -1,7 +1,7 @@
 //! What is to be done with links, and when.
 
-ghost use Rattle.std.specs.Prelude.{◌≡◌, ◌≤◌, ◌++◌, ◌∷◌, [], IfSome, None, OnErr, OnOk, Some, true, false, if◌then◌else◌, length};
-ghost use Rattle.hc_agenda.specs.Agendas.{ChangesDeadlines, ChangesOwed, ForgetsDeadlines, IsFirstOwed, IsFree, IsToBeDone, NotesDeadline, NotesOwed, NotesTurns, TakesFirst, owed_in, refused_in};
+ghost use Rattle.std.specs.Prelude.{◌≡◌, ◌≤◌, ◌++◌, ◌∷◌, [], IfSome, None, OnErr, OnOk, Some, true, false, if◌then◌else◌};
+ghost use Rattle.hc_agenda.specs.Agendas.{ChangesOwed, ForgetsDeadlines, IsFirstOwed, IsFree, IsToBeDone, NotesDeadline, NotesOwed, NotesTurns, TakesFirst, owed_in, refused_in};
 ghost use Rattle.hc_agenda.specs.Deadlines.{IsDueFirst, IsFirstNumberOf, IsFirstOf, deadline_at, deadlines_in, has_come, is_of_client, is_of_forward};
 ghost use Rattle.hc_agenda.specs.Due.{same_timeout};
 ghost use Rattle.hc_agenda.specs.Earliest.{IsEarliest, earlier_of};

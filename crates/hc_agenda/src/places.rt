@@ -1,9 +1,9 @@
 //! The places at the origin: who has one, and who waits for one.
 
-ghost use Rattle.std.specs.Prelude.{◌≡◌, ◌+◌, ◌-◌, ◌^◌, ◌≤◌, ◌++◌, ◌∷◌, ℕ, [], true, false, IfSome, OnErr, OnOk, length, min};
+ghost use Rattle.std.specs.Prelude.{◌≡◌, ◌+◌, ◌-◌, ◌≤◌, ◌++◌, ◌∷◌, ℕ, [], true, false, IfSome, OnErr, OnOk};
 ghost use Rattle.std.specs.BTreeMap.{is_at};
 ghost use Rattle.std.specs.Ordering.{nat_cmp};
-ghost use Rattle.hc_agenda.specs.Places.{ChangesLine, ChangesOpened, HasPlaceLeft, IsNext, IsNextBehind, KeepsLines, KeepsPlaces, TakesForward, TakesNext, awaited_in, count_waiting, first_in, has_place, line_of, opened_in, places_given, places_in_all, unawaited_in, without_first};
+ghost use Rattle.hc_agenda.specs.Places.{ChangesLine, ChangesOpened, HasPlaceLeft, IsNext, IsNextBehind, KeepsLines, KeepsPlaces, TakesForward, TakesNext, awaited_in, first_in, has_place, line_of, opened_in, places_given, places_in_all, unawaited_in, without_first};
 
 use std::alloc::{AllocError, Global};
 use std::collections::{BTreeMap, VecDeque};

@@ -1,6 +1,6 @@
 //! Guests, and those who were turned away, and what is noted of them.
 
-ghost use Rattle.std.specs.Prelude.{◌≡◌, [], ℕ, List, IfSome};
+ghost use Rattle.std.specs.Prelude.{[], List, IfSome};
 ghost use Rattle.hc_peers.specs.Keeping.{KeepsPeers};
 ghost use Rattle.hc_attended.specs.Grounds.{KeepsServed};
 
@@ -13,7 +13,6 @@ use std::alloc::AllocError;
 
 impl<W: World> Attended<W> {
     ghost use Rattle.hc_order.specs.Log.{Move};
-    ghost use Rattle.hc_peers.specs.Guests.{KeepsGuests, stream_at};
     ghost use Rattle.hc_peers.specs.Keeping.{KeepsWithin};
     ghost use Rattle.hc_peers.specs.Peers.{ArePeers, Bounds, HasRoom};
     ghost use Rattle.hc_peers.specs.Shown.{ShowNoMore};

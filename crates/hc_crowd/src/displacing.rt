@@ -5,7 +5,7 @@ ghost use Rattle.std.specs.Prelude.{◌≡◌};
 use crate::limits::Limits;
 use crate::traffic::Traffic;
 use hc_attended::World;
-use hc_flow::{Pace, Patience};
+use hc_flow::Pace;
 use hc_link_traits::Awaiting;
 use hc_order::Receiver;
 

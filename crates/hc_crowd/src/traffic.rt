@@ -8,7 +8,6 @@ use crate::told::Told;
 use crate::troubles::Troubles;
 use hc_agenda::Listening;
 use hc_attended::{Attended, World};
-use hc_order::Receiver;
 use std::alloc::{AllocError, Global};
 use std::marker::PhantomData;
 
@@ -60,7 +59,6 @@ impl<W: World + Drop> Drop for Traffic<W> {
 }
 
 impl<W: World + Drop> Traffic<W> {
-    ghost use Rattle.hc_attended.specs.declared.times.Times.{Times};
     ghost use Rattle.hc_crowd.specs.Crowds.{times_of};
     ghost use Rattle.hc_peers.specs.Peers.{ArePeers};
     ghost use Rattle.hc_peers.specs.Peers.Bounds.{AtMost};

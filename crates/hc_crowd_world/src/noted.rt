@@ -1,8 +1,6 @@
 //! Links of which all that happens is noted.
 
 ghost use Rattle.hc_order.specs.declared.occurrence.Occurrence.{Occurrence};
-ghost use Rattle.hc_order.specs.Log.{Move};
-ghost use Rattle.std.specs.Prelude.{List};
 
 use crate::notes::Notes;
 use hc_framing::MessageText;

@@ -1,6 +1,6 @@
 //! A stream, what waits to be written there, and what is known of it.
 
-ghost use Rattle.std.specs.Prelude.{◌≡◌, ◌==◌, ◌||◌, ◌&&◌, not, Bool, true, false, ℕ, List, [], ◌++◌, length, OnOk, OnErr, if◌then◌else◌, nat_lt};
+ghost use Rattle.std.specs.Prelude.{◌≡◌, ◌==◌, ◌||◌, ◌&&◌, not, true, false, ℕ, List, [], ◌++◌, length, OnOk, OnErr, if◌then◌else◌, nat_lt};
 
 use crate::outbox::{Emptying, Outbox};
 use crate::readiness::Readiness;

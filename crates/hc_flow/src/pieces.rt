@@ -1,6 +1,6 @@
 //! What waits to be written, piece by piece.
 
-ghost use Rattle.std.specs.Prelude.{◌≡◌, ◌≤◌, ◌+◌, ◌++◌, ℕ, List, [], length, drop, OnOk, OnErr};
+ghost use Rattle.std.specs.Prelude.{◌≡◌, ◌≤◌, ◌+◌, ◌++◌, [], length, drop, OnOk};
 ghost use Rattle.hc_flow.specs.Pieces.{Grows, GrowsIfOk, all_of, first_of, octets_of};
 
 use hc_framing::MessageText;

@@ -1,6 +1,6 @@
 //! How much memory is held for what waits.
 
-ghost use Rattle.std.specs.Prelude.{◌≡◌, ◌≤◌, ◌+◌, ◌-◌, ◌^◌, length, min};
+ghost use Rattle.std.specs.Prelude.{◌≤◌, ◌+◌, ◌-◌, ◌^◌, length, min};
 ghost use Rattle.hc_flow.specs.Pieces.{all_of};
 ghost use Rattle.hc_flow.specs.Weights.{IsWeight, IsWeightOf, joined_in, size_of};
 

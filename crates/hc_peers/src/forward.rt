@@ -1,6 +1,6 @@
 //! One forward, and how far the origin was reached for it.
 
-ghost use Rattle.std.specs.Prelude.{◌≡◌, ◌+◌, ◌-◌, ◌^◌, ◌<◌, ◌&&◌, ◌||◌, not, false, true, [], None, Some, is_ok, is_some, min, unwrap_or, IsErr, OnOk};
+ghost use Rattle.std.specs.Prelude.{◌≡◌, ◌+◌, ◌-◌, ◌^◌, ◌<◌, ◌&&◌, not, false, true, [], None, Some, is_ok, is_some, min, unwrap_or, IsErr, OnOk};
 
 use crate::origin_link::OriginLink;
 use hc_flow::{Emptying, Heard, Progress, Readiness, Stream, wants_turn, weight_of};

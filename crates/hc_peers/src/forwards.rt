@@ -1,6 +1,6 @@
 //! What happens at the links of forwards.
 
-ghost use Rattle.std.specs.Prelude.{◌≡◌, ◌&&◌, not, true, false, List, [], ◌∷◌, None, is_some, option_map, unwrap_or, IsErr};
+ghost use Rattle.std.specs.Prelude.{◌≡◌, ◌&&◌, not, true, false, List, [], ◌∷◌, None, is_some, option_map, unwrap_or};
 
 use crate::forward::Forward;
 use crate::peers::Peers;

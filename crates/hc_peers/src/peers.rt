@@ -1,6 +1,6 @@
 //! The links of a crowd, their places at the origin, and what is counted of connections.
 
-ghost use Rattle.std.specs.Prelude.{◌≡◌, true, ℕ, [], IfSome};
+ghost use Rattle.std.specs.Prelude.{◌≡◌, ◌-◌, ◌^◌, true, ℕ, [], IfSome, None};
 
 use crate::client::Client;
 use crate::forward::Forward;
@@ -85,7 +85,8 @@ impl<S: Stream + Drop> Peers<S> {
 
     /// The number of the next client, as far as there are numbers.
     pub fn next_number(&self) -> Option<u64>
-        ensures { IfSome result (IsNext self.now) }
+        ensures next { IfSome result (IsNext self.now) }
+        ensures spent { result ≡ None → last_given self.now ≡ 2 ^ 64 - 1 }
     {
         self.last.checked_add(1)
     }
