@@ -1,0 +1,7 @@
+pub mod OpenLemmas
+pub mod KeptLemmas
+pub mod ReplyLemmas
+pub mod PartLemmas
+pub mod TranscriptLemmas
+pub mod CountLemmas
+pub mod JoinLemmas
