@@ -151,7 +151,7 @@ shorter (x ∷ items) (y ∷ others) a b same le = shorter items others a b (ap 
 
 -- ---- where an item of a part stands in the whole
 
-skipped : (part : Target → ℕ) (k place : ℕ) (items g : List Item) → place ≤ length (items_in part k g) → position_in part k place (items ++ g) ≡ position_in part k place g
+pub skipped : (part : Target → ℕ) (k place : ℕ) (items g : List Item) → place ≤ length (items_in part k g) → position_in part k place (items ++ g) ≡ position_in part k place g
 skipped part k place [] g le = refl
 skipped part k place (item ∷ items) g le =
     let behind = items_behind part k items g in
@@ -163,7 +163,7 @@ skipped part k place (item ∷ items) g le =
     and_never true = refl
     and_never false = refl
 
-at_own_place : (part : Target → ℕ) (k : ℕ) (item : Item) (g : List Item) → goes_into part k g item ≡ true → position_in part k (next_position (items_in part k g)) (item ∷ g) ≡ next_position g
+pub at_own_place : (part : Target → ℕ) (k : ℕ) (item : Item) (g : List Item) → goes_into part k g item ≡ true → position_in part k (next_position (items_in part k g)) (item ∷ g) ≡ next_position g
 at_own_place part k item g goes = rw (goes, eq-eqb (next_position (items_in part k g)) (next_position (items_in part k g)) refl) refl
 
 pub its_position : (part : Target → ℕ) (k : ℕ) (items : List Item) (item : Item) (g : List Item) → goes_into part k g item ≡ true

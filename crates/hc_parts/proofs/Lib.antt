@@ -5,3 +5,4 @@ pub mod PartLemmas
 pub mod TranscriptLemmas
 pub mod CountLemmas
 pub mod JoinLemmas
+pub mod WrongLemmas

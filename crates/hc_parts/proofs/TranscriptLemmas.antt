@@ -13,7 +13,7 @@ use Rattle.hc_transcript.specs.declared.line.Kind.{Kind}
 use Rattle.hc_transcript.specs.declared.line.Kind.TheVariants as kind
 use Rattle.hc_transcript.specs.declared.line.Line.{Line}
 use Rattle.hc_transcript.specs.declared.line.ToldCause.{ToldCause}
-use Rattle.hc_transcript.specs.declared.line.ToldCause.TheVariants.{Exchange}
+use Rattle.hc_transcript.specs.declared.line.ToldCause.TheVariants.{Exchange, Untold}
 use Rattle.hc_transcript.specs.declared.record.Record.{Record}
 use Rattle.hc_transcript.specs.declared.record.Passed.{Passed}
 use Rattle.hc_transcript.specs.declared.record.Passed.TheVariants as passed
@@ -293,3 +293,21 @@ module _ (part : Target → ℕ) (k : ℕ) where
     octets_are = ap (λ (text : List ℕ). opening format ++ text) (sym (append-nil (records_text format (records_in part k records h))));
     are_read = reads_there format records h is.are_read joined;
   }
+
+-- ---- the first format
+
+module _ (part : Target → ℕ) where
+  untold : (kd : Kind) (number moment : ℕ) (to_head : Bool) (octets : List ℕ) (item : Item) (h : List Item) → IsItemOf kd Untold number moment to_head octets item → KeepsCause part h item
+  untold kind.ClientRequest number moment to_head octets item h is = subst (KeepsCause part h) (sym is.3) tt
+  untold kind.OriginRequest number moment to_head octets item h is = subst (KeepsCause part h) (sym is.3) tt
+  untold kind.OriginResponse number moment to_head octets item h is = subst (KeepsCause part h) (sym is.2) tt
+  untold kind.OriginFailure number moment to_head octets item h is = subst (KeepsCause part h) (sym is) tt
+  untold kind.ClientReply number moment to_head octets item h is = subst (KeepsCause part h) (sym is.2) tt
+
+  -- it tells no causes
+  pub first_keeps : (records : List Record) (h : List Item) → AreReadAs form.First records h → KeepsCauses part h
+  first_keeps [] [] read = tt
+  first_keeps [] (item ∷ h) read = absurd read
+  first_keeps (r ∷ records) [] read = absurd read
+  first_keeps (r ∷ records) (item ∷ h) read =
+      (first_keeps records h read.0, untold (passed_kind r.of) r.number r.moment (is_to_head (passed_kind r.of) r.number h) (message_of r) item h read.1.reads)

@@ -1,5 +1,6 @@
 -- What the verdicts on all parts tell of the whole.
 use Rattle.std.specs.Prelude.{◌≡◌, ◌⊎◌, ◌≤◌, ◌+◌, ℕ, zero, suc, List}
+use Rattle.std.specs.List.{Contains}
 use Rattle.hc_head.specs.declared.head.Target.{Target}
 use Rattle.hc_transcript.specs.declared.format.Format.{Format}
 use Rattle.hc_transcript.specs.declared.record.Record.{Record}
@@ -8,9 +9,11 @@ use Rattle.hc_history.specs.declared.reasons.Reason.{Reason}
 use Rattle.hc_history.specs.declared.settings.Settings.{Settings}
 use Rattle.hc_history.specs.declared.verdicts.Counts.{Counts}
 use Rattle.hc_history.specs.declared.verdicts.Verdict.TheVariants.{Yes, No}
+use Rattle.hc_history.specs.declared.wrong.WrongReply.{WrongReply}
 use Rattle.hc_history.specs.Counting.{no_counts}
 use Rattle.hc_history.specs.Verdicts.{IsVerdict}
-use Rattle.hc_parts.specs.Parts.{part_octets, position_in}
+use Rattle.hc_history.specs.WrongReplies.{AreWrongIn}
+use Rattle.hc_parts.specs.Parts.{items_in, part_octets, position_in}
 
 -- two counts as one
 abbrev pub added : Counts → Counts → Counts
@@ -40,3 +43,16 @@ module _ (part : Target → ℕ) (format : Format) (settings : Settings) (record
   IsClearBefore position k =
       ((counts : Counts) × IsVerdict (part_octets part format k records h) settings (Yes counts))
       ⊎ ((later : ℕ) × (why : Reason) × IsPartWrong k later why × (position ≤ later))
+
+-- ---- all wrong replies
+
+-- a wrong reply of a part, by where it stands in the whole
+abbrev pub in_whole : (Target → ℕ) → ℕ → List Item → WrongReply → WrongReply
+in_whole part k h wrong = record { position = position_in part k wrong.position h; reason = wrong.reason }
+
+-- a wrong reply of the whole is one of a part
+pub record IsWrongInPart (part : Target → ℕ) (format : Format) (settings : Settings) (h : List Item) (wrong : WrongReply) : Type 0 where
+  pub part_is : ℕ
+  pub there : WrongReply
+  pub wrong_is : wrong ≡ in_whole part part_is h there
+  pub is_listed : (others : List WrongReply) → AreWrongIn format settings (items_in part part_is h) others → Contains others there

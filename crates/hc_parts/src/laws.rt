@@ -1,8 +1,10 @@
 //! Laws of the definitions.
 
 ghost use Rattle.std.specs.Prelude.{◌≡◌, ◌≤◌, ◌<◌, ◌↔◌, ◌++◌, ◌∷◌, ℕ, true, List};
+ghost use Rattle.std.specs.List.{Contains};
 ghost use Rattle.hc_head.specs.declared.head.Target.{Target};
 ghost use Rattle.hc_transcript.specs.declared.format.Format.{Format};
+ghost use Rattle.hc_transcript.specs.declared.format.Format.TheVariants.{First};
 ghost use Rattle.hc_transcript.specs.declared.record.Record.{Record};
 ghost use Rattle.hc_transcript.specs.History.{next_position};
 ghost use Rattle.hc_transcript.specs.Items.{Item};
@@ -11,9 +13,11 @@ ghost use Rattle.hc_history.specs.declared.reasons.Reason.{Reason};
 ghost use Rattle.hc_history.specs.declared.settings.Settings.{Settings};
 ghost use Rattle.hc_history.specs.declared.verdicts.Counts.{Counts};
 ghost use Rattle.hc_history.specs.declared.verdicts.Verdict.TheVariants.{Yes, No};
+ghost use Rattle.hc_history.specs.declared.wrong.WrongReply.{WrongReply};
 ghost use Rattle.hc_history.specs.Right.{AllRight, IsRight, IsWrong};
 ghost use Rattle.hc_history.specs.Verdicts.{IsVerdict};
-ghost use Rattle.hc_parts.specs.Joining.{AreRightParts, IsClearBefore, IsPartWrong};
+ghost use Rattle.hc_history.specs.WrongReplies.{AreWrongIn};
+ghost use Rattle.hc_parts.specs.Joining.{AreRightParts, IsClearBefore, IsPartWrong, IsWrongInPart, in_whole};
 ghost use Rattle.hc_parts.specs.Orderly.{AreInTurn, IsInTurn};
 ghost use Rattle.hc_parts.specs.Parts.{KeepsCauses, goes_into, items_in, part_octets, position_in, records_in};
 
@@ -28,9 +32,10 @@ pub fn each_item_goes_into_one_part()
 {}
 
 /// A part of a transcript is a transcript, whose items are those of the part, if each forward that is told to
-/// be made for an exchange goes where that exchange goes.
+/// be made for an exchange goes where that exchange goes. In the first format none is told to be.
 pub fn parts_are_transcripts()
-    ensures { (part : Target → ℕ) (k : ℕ) (format : Format) (octets : List ℕ) (records : List Record) (h : List Item)
+    ensures first_format { (part : Target → ℕ) (octets : List ℕ) (records : List Record) (h : List Item) → IsTranscript First octets records h → KeepsCauses part h }
+    ensures part { (part : Target → ℕ) (k : ℕ) (format : Format) (octets : List ℕ) (records : List Record) (h : List Item)
         → IsTranscript format octets records h → KeepsCauses part h
         → IsTranscript format (part_octets part format k records h) (records_in part k records h) (items_in part k h) }
 {}
@@ -46,6 +51,16 @@ pub fn parts_are_judged_as_the_whole()
     // So all are right exactly if all are in each part.
     ensures all { (part : Target → ℕ) (format : Format) (settings : Settings) (h : List Item) → AreInTurn h → KeepsCauses part h
         → AllRight format settings h ↔ ((k : ℕ) → AllRight format settings (items_in part k h)) }
+{}
+
+/// Then the wrong replies of the whole are those of all parts, each by where it stands in the whole.
+pub fn wrong_replies_of_parts_are_those_of_the_whole()
+    ensures part { (part : Target → ℕ) (format : Format) (settings : Settings) (k : ℕ) (h : List Item) → AreInTurn h → KeepsCauses part h
+        → (others wrongs : List WrongReply) → AreWrongIn format settings (items_in part k h) others → AreWrongIn format settings h wrongs
+        → (other : WrongReply) → Contains others other → Contains wrongs (in_whole part k h other) }
+    ensures whole { (part : Target → ℕ) (format : Format) (settings : Settings) (h : List Item) → AreInTurn h → KeepsCauses part h
+        → (wrongs : List WrongReply) → AreWrongIn format settings h wrongs
+        → (wrong : WrongReply) → Contains wrongs wrong → IsWrongInPart part format settings h wrong }
 {}
 
 /// Then the verdicts on all parts of a transcript give the verdict on the whole. It is yes if each is yes, with
