@@ -63,12 +63,15 @@ pub fn wrong_replies_of_parts_are_those_of_the_whole()
         → (wrong : WrongReply) → Contains wrongs wrong → IsWrongInPart part format settings h wrong }
 {}
 
-/// Then the verdicts on all parts of a transcript give the verdict on the whole. It is yes if each is yes, with
-/// what is counted in all parts together. Else it is the no that comes first by its position in the whole.
-pub fn verdicts_of_parts_give_that_of_the_whole()
-    ensures yes { (part : Target → ℕ) (n : ℕ) (format : Format) (octets : List ℕ) (settings : Settings) (records : List Record) (h : List Item)
+/// Then a transcript gets yes exactly if each part gets it, and its counts are those of all parts together.
+pub fn yes_to_all_parts_is_yes_to_the_whole()
+    ensures { (part : Target → ℕ) (n : ℕ) (format : Format) (octets : List ℕ) (settings : Settings) (records : List Record) (h : List Item)
         → IsTranscript format octets records h → KeepsCauses part h → ((target : Target) → part target < n) → (counts : Counts)
         → IsVerdict octets settings (Yes counts) ↔ AreRightParts part format settings records h n counts }
+{}
+
+/// Else it gets the no that comes first by its position in the whole.
+pub fn first_no_of_the_parts_is_no_to_the_whole()
     ensures first { (part : Target → ℕ) (format : Format) (octets : List ℕ) (settings : Settings) (records : List Record) (h : List Item)
         → IsTranscript format octets records h → KeepsCauses part h
         → (position : ℕ) (why : Reason) → IsVerdict octets settings (No position why)

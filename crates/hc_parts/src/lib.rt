@@ -4,6 +4,7 @@
 mod laws;
 
 pub use laws::{
-    each_item_goes_into_one_part, parts_are_judged_as_the_whole, parts_are_transcripts,
-    verdicts_of_parts_give_that_of_the_whole, wrong_replies_of_parts_are_those_of_the_whole,
+    each_item_goes_into_one_part, first_no_of_the_parts_is_no_to_the_whole,
+    parts_are_judged_as_the_whole, parts_are_transcripts,
+    wrong_replies_of_parts_are_those_of_the_whole, yes_to_all_parts_is_yes_to_the_whole,
 };
