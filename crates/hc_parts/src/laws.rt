@@ -40,7 +40,8 @@ pub fn parts_are_transcripts()
         → IsTranscript format (part_octets part format k records h) (records_in part k records h) (items_in part k h) }
 {}
 
-/// Then a reply is right in its part exactly if it is right in the whole, and wrong by the same reason.
+/// Where each forward goes where its exchange goes, a reply is right in its part exactly if it is right in the
+/// whole, and wrong by the same reason.
 pub fn parts_are_judged_as_the_whole()
     ensures right { (part : Target → ℕ) (format : Format) (settings : Settings) (k : ℕ) (h : List Item) (item : Item)
         → AreInTurn h → KeepsCauses part h → goes_into part k h item ≡ true
@@ -53,7 +54,8 @@ pub fn parts_are_judged_as_the_whole()
         → AllRight format settings h ↔ ((k : ℕ) → AllRight format settings (items_in part k h)) }
 {}
 
-/// Then the wrong replies of the whole are those of all parts, each by where it stands in the whole.
+/// Where each forward goes where its exchange goes, the wrong replies of the whole are those of all parts, each
+/// by where it stands in the whole.
 pub fn wrong_replies_of_parts_are_those_of_the_whole()
     ensures part { (part : Target → ℕ) (format : Format) (settings : Settings) (k : ℕ) (h : List Item) → AreInTurn h → KeepsCauses part h
         → (others wrongs : List WrongReply) → AreWrongIn format settings (items_in part k h) others → AreWrongIn format settings h wrongs
@@ -63,14 +65,16 @@ pub fn wrong_replies_of_parts_are_those_of_the_whole()
         → (wrong : WrongReply) → Contains wrongs wrong → IsWrongInPart part format settings h wrong }
 {}
 
-/// Then a transcript gets yes exactly if each part gets it, and its counts are those of all parts together.
+/// Where each forward goes where its exchange goes, a transcript gets yes exactly if each part gets it, and its
+/// counts are those of all parts together.
 pub fn yes_to_all_parts_is_yes_to_the_whole()
     ensures { (part : Target → ℕ) (n : ℕ) (format : Format) (octets : List ℕ) (settings : Settings) (records : List Record) (h : List Item)
         → IsTranscript format octets records h → KeepsCauses part h → ((target : Target) → part target < n) → (counts : Counts)
         → IsVerdict octets settings (Yes counts) ↔ AreRightParts part format settings records h n counts }
 {}
 
-/// Else it gets the no that comes first by its position in the whole.
+/// Where each forward goes where its exchange goes, a transcript of which a part gets no gets the no that comes
+/// first by its position in the whole.
 pub fn first_no_of_the_parts_is_no_to_the_whole()
     ensures first { (part : Target → ℕ) (format : Format) (octets : List ℕ) (settings : Settings) (records : List Record) (h : List Item)
         → IsTranscript format octets records h → KeepsCauses part h
