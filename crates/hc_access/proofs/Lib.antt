@@ -1,0 +1,2 @@
+pub mod LineLemmas
+pub mod LogLemmas

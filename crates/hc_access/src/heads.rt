@@ -1,0 +1,62 @@
+//! What stands in heads that a cache has written: each line of one ends with a carriage return and a line feed.
+
+use memchr::memchr;
+
+/// So many lines of a head are looked at, more than one has.
+const MOST_LINES: usize = 256;
+
+/// A line without its end, and what follows it. None behind the last line of a head.
+fn next_line(text: &[u8]) -> Option<(&[u8], &[u8])> {
+    let (line, rest) = text.split_at_checked(memchr(b'\n', text)?)?;
+    let line = line.strip_suffix(b"\r")?;
+    if line.is_empty() {
+        return None;
+    }
+    Some((line, rest.strip_prefix(b"\n")?))
+}
+
+/// The first line of a head without its end.
+pub(crate) fn first_line(head: &[u8]) -> &[u8] {
+    match next_line(head) {
+        Some((line, _)) => line,
+        None => b"",
+    }
+}
+
+/// How many octets a head has, of those with which a message begins.
+pub(crate) fn head_len(text: &[u8]) -> usize {
+    let mut rest = text;
+    'lines: for _ in 0..MOST_LINES {
+        match next_line(rest) {
+            Some((_, behind)) => rest = behind,
+            None => break,
+        }
+    }
+    text.len().saturating_sub(rest.len()).saturating_add(2)
+}
+
+/// The value of the last line of that name in a head, which is written in small letters; empty where there is none.
+pub(crate) fn value_of<'a>(head: &'a [u8], name: &[u8]) -> &'a [u8] {
+    let mut value: &[u8] = b"";
+    let mut rest = head;
+    'lines: for _ in 0..MOST_LINES {
+        let Some((line, behind)) = next_line(rest) else {
+            return value;
+        };
+        if let Some(found) = value_in(line, name) {
+            value = found;
+        }
+        rest = behind;
+    }
+    value
+}
+
+/// The value of a line, if it has that name.
+fn value_in<'a>(line: &'a [u8], name: &[u8]) -> Option<&'a [u8]> {
+    let (first, rest) = line.split_at_checked(name.len())?;
+    if !first.eq_ignore_ascii_case(name) {
+        return None;
+    }
+    let value = rest.strip_prefix(b":")?;
+    Some(value.trim_ascii())
+}
