@@ -1,2 +1,3 @@
 pub mod LineLemmas
 pub mod LogLemmas
+pub mod AccountLemmas

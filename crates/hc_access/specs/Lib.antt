@@ -1,3 +1,4 @@
 pub mod Values
 pub mod Lines
 pub mod Writing
+pub mod Accounts

@@ -1,13 +1,16 @@
 //! The access log of a proxy: a line for each reply.
 #![tactic(auto)]
 
+mod access_log;
 mod asked;
+mod drafts;
 mod heads;
 mod line;
 mod lines;
-mod log;
 mod quoting;
+mod replies;
+mod visits;
+mod writer;
 
-pub use asked::Asked;
-pub use line::Replied;
-pub use log::AccessLog;
+pub use access_log::{AccessLog, Target};
+pub use visits::Visited;

@@ -1,14 +1,14 @@
 //! A line of the access log.
 
-ghost use Rattle.std.specs.Prelude.{◌≡◌, ◌++◌, ◌<◌, OnOk, decimal};
+ghost use Rattle.std.specs.Prelude.{◌≡◌, ◌++◌, ◌<◌, IfOk, OnOk, decimal};
 ghost use Rattle.hc_fields.specs.Numbers.{end_of_moments};
 ghost use Rattle.hc_access.specs.Lines.{begin_text, behind_text, day_and_time, front_text, replied_text};
-ghost use Rattle.hc_access.specs.Values.{end_text};
+ghost use Rattle.hc_access.specs.Values.{HasQuotes, end_text};
 
 use crate::asked::Asked;
 use crate::quoting::{push_quoted, push_value};
 use hc_fresh::date_text;
-use std::alloc::AllocError;
+use std::alloc::{AllocError, Global};
 use std::io::Write;
 
 /// What was replied.
@@ -89,7 +89,7 @@ fn push_behind(
 }
 
 /// Puts a line at the end, but for how long it took: who asked, when and what, and what was replied.
-pub(crate) fn push_front(
+fn push_front(
     client: &[u8],
     time: &[u8],
     asked: &Asked,
@@ -101,6 +101,25 @@ pub(crate) fn push_front(
     push_begin(client, time, asked.line.as_slice(), out)?;
     push_replied(replied.status, replied.size, out)?;
     push_behind(asked.beside.as_slice(), replied.mark, replied.trouble, out)
+}
+
+/// The room that a line gets at first.
+const ROOM: usize = 320;
+
+/// A line but for how long it took: who asked, when and what, and what was replied.
+pub(crate) fn front_of(
+    alloc: Global,
+    client: &[u8],
+    time: &[u8],
+    asked: &Asked,
+    replied: Replied<'_>,
+) -> Result<Vec<u8>, AllocError>
+    ensures text { IfOk result (λ front. front.items ≡ front_text client.now time.now asked.now replied.entry) }
+    ensures quotes { IfOk result (λ front. HasQuotes 10 front.items) }
+{
+    let mut front = Vec::with_capacity(alloc, ROOM)?;
+    push_front(client, time, asked, replied, &mut front)?;
+    Ok(front)
 }
 
 /// Puts how long it took, in milliseconds, at the end, and the line's end.

@@ -243,11 +243,11 @@ values_give value (ToServe listen origin connections file settings) a =
     let set = cache_given keys_served value settings a.settings_are in
     λ i. option_map (λ p. ToServe p.0.0 p.0.1 p.1.0.0 p.1.0.1 p.1.1)
     (both (both (a.listen_is i) (a.origin_is i)) (both (both (option_and_then (λ o. o) (a.connections_is i)) (a.file_is i)) (set i)))
-values_give value (ToProxy listen origin file terms limits keeps_cookies settings) a =
+values_give value (ToProxy listen origin file log terms limits keeps_cookies settings) a =
     let set = cache_given keys_proxied value settings a.settings_are in
     let limited = limits_given value limits a.limits_are in
     let recorded = terms_given value terms a.terms_are in
-    λ i. option_map (λ p. ToProxy p.0.0 p.0.1 (a.file_is i) p.1.0 p.1.1.0 (a.cookies_are i) p.1.1.1)
+    λ i. option_map (λ p. ToProxy p.0.0 p.0.1 (a.file_is i) (a.log_is i) p.1.0 p.1.1.0 (a.cookies_are i) p.1.1.1)
     (both (both (a.listen_is i) (a.origin_is i)) (both (recorded i) (both (limited i) (set i))))
 
 task_given : (command : Option Command) (value : Text → Option Text) (task : Task) → AsksBy command value task → task_by command value ≡ Some task
@@ -340,9 +340,9 @@ serving_fine value listen origin n file settings a = (
   ),
 )
 
-proxying_fine : (value : Text → Option Text) (listen origin : Text) (file : Option Text) (terms : RecordTerms) (limits : ProxyLimits) (keeps_cookies : Bool) (settings : CoreSettings)
-    → AsksProxy value listen origin file terms limits keeps_cookies settings → AreFine taken_by value proxying
-proxying_fine value listen origin file terms limits keeps_cookies settings a =
+proxying_fine : (value : Text → Option Text) (listen origin : Text) (file log : Option Text) (terms : RecordTerms) (limits : ProxyLimits) (keeps_cookies : Bool) (settings : CoreSettings)
+    → AsksProxy value listen origin file log terms limits keeps_cookies settings → AreFine taken_by value proxying
+proxying_fine value listen origin file log terms limits keeps_cookies settings a =
     let l = a.limits_are in
     let p = a.limits_are.patience_is in
     let within = λ (least most usual : ℕ). λ (name : Text). λ (n : ℕ). λ (is : number_or (Number least most) usual (value name) ≡ Some n).
@@ -382,7 +382,7 @@ proxying_fine value listen origin file terms limits keeps_cookies settings a =
                                       within 0 86400 8 (codes "drain-timeout") limits.drain_timeout l.drain_timeout_is,
                                       (
                                         numbered_if_given 1 greatest_number limits.clients (value (codes "connections")) l.clients_are,
-                                        (any_fine taken_by taken_by_judges (value (codes "store-set-cookie")), tt),
+                                        (any_fine taken_by taken_by_judges (value (codes "store-set-cookie")), (any_fine taken_by taken_by_judges (value (codes "access-log")), tt)),
                                       ),
                                     ),
                                   ),
@@ -425,8 +425,8 @@ values_fine value (ToReplay file) a = (there taken_by taken_by_judges (value (co
 values_fine value (ToConvert file) a = (there taken_by taken_by_judges (value (codes "FILE")) file a, tt)
 values_fine value (ToServe listen origin connections file settings) a =
     appended taken_by value serving caching (serving_fine value listen origin connections file settings a) (cache_fine keys_served value settings a.settings_are)
-values_fine value (ToProxy listen origin file terms limits keeps_cookies settings) a =
-    appended taken_by value proxying caching (proxying_fine value listen origin file terms limits keeps_cookies settings a) (cache_fine keys_proxied value settings a.settings_are)
+values_fine value (ToProxy listen origin file log terms limits keeps_cookies settings) a =
+    appended taken_by value proxying caching (proxying_fine value listen origin file log terms limits keeps_cookies settings a) (cache_fine keys_proxied value settings a.settings_are)
 
 -- and what is asked isn't refused
 none_outside : (command : Option Command) (value : Text → Option Text) (task : Task) (e : Error) (refusal : Refusal) → command ≡ Some (command_of task)
@@ -513,7 +513,7 @@ possible_from command value (ToShow file span) asks = last_is_one (value (codes 
 possible_from command value (ToReplay file) asks = tt
 possible_from command value (ToConvert file) asks = tt
 possible_from command value (ToServe listen origin connections file settings) asks = good_cache keys_served value settings refl asks.1.settings_are
-possible_from command value (ToProxy listen origin file asked limits keeps_cookies settings) asks = good_cache keys_proxied value settings refl asks.1.settings_are
+possible_from command value (ToProxy listen origin file log asked limits keeps_cookies settings) asks = good_cache keys_proxied value settings refl asks.1.settings_are
 
 -- words that ask something are refused for want of memory alone
 pub asked_from : (words : List Text) (task : Task) (e : Error) → fault_of hcache words ≡ [] → Asks words task → IsRefused words e → kind_of e ≡ OutOfMemory

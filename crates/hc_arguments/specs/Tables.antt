@@ -94,12 +94,12 @@ abandoned = option (codes "abandoned") (Number 1 86400)
 abbrev pub drain_timeout : Entry
 drain_timeout = option (codes "drain-timeout") (Number 0 86400)
 
--- between whom a proxy stands, where and how far that is recorded, within which limits, and whether responses that set a cookie are stored
+-- between whom a proxy stands, where and how far that is recorded, within which limits, whether responses that set a cookie are stored, and where replies are logged
 abbrev pub proxying : List Entry
 proxying = wanted (codes "listen") AnyText ∷ wanted (codes "origin") OriginAddress ∷ option (codes "record") AnyText
     ∷ option (codes "record-limit") (Size 0) ∷ flag (codes "record-strict") ∷ max_connections ∷ origin_connections ∷ held
     ∷ idle_timeout ∷ request_timeout ∷ send_timeout ∷ queue_timeout ∷ connect_timeout ∷ origin_timeout ∷ origin_total ∷ abandoned ∷ drain_timeout
-    ∷ option (codes "connections") (Number 1 greatest_number) ∷ flag (codes "store-set-cookie") ∷ []
+    ∷ option (codes "connections") (Number 1 greatest_number) ∷ flag (codes "store-set-cookie") ∷ option (codes "access-log") AnyText ∷ []
 
 -- what a cache is
 abbrev pub caching : List Entry

@@ -70,9 +70,9 @@ pub data Task : Type 0 where
   ToConvert : (file : Text) → Task
   -- to serve so many connections there, before that origin, to record them to that file, from a cache of those settings
   ToServe : (listen origin : Text) (connections : ℕ) (file : Text) (settings : CoreSettings) → Task
-  -- to serve all that connect there at once, before that origin, to record them to that file, if any, on those terms, within those
+  -- to serve all that connect there at once, before that origin, to record them to that file, if any, on those terms, to log replies to that one, if any, within those
   -- limits, from a cache of those settings, which stores responses that set a cookie, or doesn't
-  ToProxy : (listen origin : Text) (file : Option Text) (terms : RecordTerms) (limits : ProxyLimits) (keeps_cookies : Bool) (settings : CoreSettings) → Task
+  ToProxy : (listen origin : Text) (file log : Option Text) (terms : RecordTerms) (limits : ProxyLimits) (keeps_cookies : Bool) (settings : CoreSettings) → Task
 
 abbrev pub command_of : Task → Command
 command_of (ToAudit file terms) = Audits
@@ -82,7 +82,7 @@ command_of (ToShow file span) = Shows
 command_of (ToReplay file) = Replays
 command_of (ToConvert file) = Converts
 command_of (ToServe listen origin connections file settings) = Serves
-command_of (ToProxy listen origin file terms limits keeps_cookies settings) = Proxies
+command_of (ToProxy listen origin file log terms limits keeps_cookies settings) = Proxies
 
 abbrev pub task_of : Order → Task
 task_of (Audit file terms) = ToAudit file.now terms
@@ -92,7 +92,7 @@ task_of (Show file span) = ToShow file.now span
 task_of (Replay file) = ToReplay file.now
 task_of (Convert file) = ToConvert file.now
 task_of (Serve s) = ToServe s.listen.now s.origin.now s.connections s.file.now s.settings
-task_of (Proxy p) = ToProxy p.listen.now p.origin.now (option_map (λ file. file.now) p.file) p.terms p.limits p.keeps_cookies p.settings
+task_of (Proxy p) = ToProxy p.listen.now p.origin.now (option_map (λ file. file.now) p.file) (option_map (λ file. file.now) p.log) p.terms p.limits p.keeps_cookies p.settings
 
 -- the values, by their names, ask that of `report`
 pub record AsksReport (value : Text → Option Text) (file : Text) (terms : AuditTerms) (form : Form) : Type 0 where
@@ -127,11 +127,12 @@ pub record AsksService (value : Text → Option Text) (listen origin : Text) (co
   pub settings_are : AsksCache keys_served value settings
 
 -- and that of `proxy`
-pub record AsksProxy (value : Text → Option Text) (listen origin : Text) (file : Option Text) (terms : RecordTerms) (limits : ProxyLimits) (keeps_cookies : Bool) (settings : CoreSettings) : Type 0 where
+pub record AsksProxy (value : Text → Option Text) (listen origin : Text) (file log : Option Text) (terms : RecordTerms) (limits : ProxyLimits) (keeps_cookies : Bool) (settings : CoreSettings) : Type 0 where
   pub listen_is : value (codes "listen") ≡ Some listen
   pub origin_is : value (codes "origin") ≡ Some origin
   pub origin_is_one : is_origin origin ≡ true
   pub file_is : value (codes "record") ≡ file
+  pub log_is : value (codes "access-log") ≡ log
   pub terms_are : AsksTerms value terms
   pub limits_are : AsksLimits value limits
   pub cookies_are : flag_by (value (codes "store-set-cookie")) ≡ keeps_cookies
@@ -145,7 +146,7 @@ ValuesAsk value (ToShow file span) = AsksShow value file span
 ValuesAsk value (ToReplay file) = value (codes "FILE") ≡ Some file
 ValuesAsk value (ToConvert file) = value (codes "FILE") ≡ Some file
 ValuesAsk value (ToServe listen origin connections file settings) = AsksService value listen origin connections file settings
-ValuesAsk value (ToProxy listen origin file terms limits keeps_cookies settings) = AsksProxy value listen origin file terms limits keeps_cookies settings
+ValuesAsk value (ToProxy listen origin file log terms limits keeps_cookies settings) = AsksProxy value listen origin file log terms limits keeps_cookies settings
 
 -- the command and its values ask that
 abbrev pub AsksBy : Option Command → (Text → Option Text) → Task → Type 0
@@ -167,7 +168,7 @@ Asks words = AsksIn (subcommand_of hcache words)
 abbrev pub CanBeDone : Task → Type 0
 CanBeDone (ToShow file span) = 0 < span.last
 CanBeDone (ToServe listen origin connections file settings) = AreGood settings
-CanBeDone (ToProxy listen origin file terms limits keeps_cookies settings) = AreGood settings
+CanBeDone (ToProxy listen origin file log terms limits keeps_cookies settings) = AreGood settings
 CanBeDone task = ⊤
 
 -- ---- plain words

@@ -282,6 +282,7 @@ fn proxy_in<'a>(alloc: Global, found: &ArgMatches<'a>) -> Result<Order<'a>, Refu
         listen,
         origin,
         file: found.get_str("record"),
+        log: found.get_str("access-log"),
         terms: terms_in(found)?,
         limits: limits_in(found)?,
         keeps_cookies: flag_in(found, "store-set-cookie"),

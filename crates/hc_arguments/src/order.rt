@@ -104,6 +104,8 @@ pub struct Proxying<'a> {
     pub origin: &'a str,
     /// The name of the file that is recorded to, which is new or empty; without it nothing is recorded.
     pub file: Option<&'a str>,
+    /// Where it logs replies: the name of a file that is appended to, or `-` for standard output; nowhere without it.
+    pub log: Option<&'a str>,
     /// How far it records there.
     pub terms: RecordTerms,
     /// How much it takes on at once, and for how long.

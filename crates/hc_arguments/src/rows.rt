@@ -303,8 +303,19 @@ const STORE_SET_COOKIE: Row = Row {
         none is kept",
 };
 
-/// Between whom a proxy stands, where and how far that is recorded, within which limits, and what it stores beside the usual.
-pub(crate) const PROXYING: [Row; 19] = [
+const ACCESS_LOG: Row = Row {
+    name: "access-log",
+    kind: Kind::Valued,
+    value: "FILE",
+    takes: Takes::AnyText,
+    required: false,
+    help: "A file that gets a line for each reply, behind what it has, and is opened again where its name leads to another \
+        one; `-` is standard output. Nothing is logged without the option",
+};
+
+/// Between whom a proxy stands, where and how far that is recorded, within which limits, what it stores beside the usual, and
+/// where replies are logged.
+pub(crate) const PROXYING: [Row; 20] = [
     LISTEN,
     ORIGIN,
     RECORD_IF_GIVEN,
@@ -324,6 +335,7 @@ pub(crate) const PROXYING: [Row; 19] = [
     DRAIN_TIMEOUT,
     CLIENTS,
     STORE_SET_COOKIE,
+    ACCESS_LOG,
 ];
 
 pub(crate) const KEYS: Row = Row {

@@ -18,7 +18,7 @@ use Rattle.hc_notices.specs.Notices.{SaysSome}
 abbrev pub Served : ℕ → Option (List ℕ) → Option (List ℕ) → Option (List ℕ) → Option (List ℕ) → Type 0
 Served status old new faults_old faults_new = Keeps old new × ((status ≡ 3) ⊎ ((status ≡ 0) × Keeps faults_old faults_new))
 
--- nothing was written on the output; clients were served until it was stopped, or all had come and gone, and notices alone were said, the last perhaps in part; or the status is 3, or 64 where nothing can be recorded to what was named
+-- nothing was written on the output, unless whoever serves logs replies there; clients were served until it was stopped, or all had come and gone, and notices alone were said, the last perhaps in part; or the status is 3, or 64 where nothing can be recorded to what was named
 abbrev pub Proxied : ℕ → Option (List ℕ) → Option (List ℕ) → Option (List ℕ) → Option (List ℕ) → Type 0
 Proxied status old new faults_old faults_new = Keeps old new × ((status ≡ 3) ⊎ (status ≡ 64) ⊎ ((status ≡ 0) × SaysSome faults_old faults_new))
 
@@ -31,7 +31,7 @@ Does (ToShow file span) status old new faults_old faults_new = ShownFor span sta
 Does (ToReplay file) status old new faults_old faults_new = Played status old new faults_old faults_new
 Does (ToConvert file) status old new faults_old faults_new = Converted status old new faults_old faults_new
 Does (ToServe listen origin connections file settings) status old new faults_old faults_new = Served status old new faults_old faults_new
-Does (ToProxy listen origin file terms limits keeps_cookies settings) status old new faults_old faults_new = Proxied status old new faults_old faults_new
+Does (ToProxy listen origin file log terms limits keeps_cookies settings) status old new faults_old faults_new = Proxied status old new faults_old faults_new
 
 -- a task is answered, help or the version is shown, or the words are refused with nothing on the output
 abbrev pub Ends : ℕ → Option (List ℕ) → Option (List ℕ) → Option (List ℕ) → Option (List ℕ) → Type 0

@@ -18,6 +18,7 @@ pub trait Server {
 
     /// Serves many clients at once, until it is stopped, says on `faults` what is amiss, and answers the exit status: 0, or
     /// 3 where it couldn't go on, or 64 where nothing can be recorded to what it was asked to; a line on `faults` says why.
+    /// Where replies are logged to `-`, it writes them to the program's standard output by itself.
     fn proxy<E: Write>(&self, proxying: Proxying<'_>, faults: &mut E) -> u8
         requires { AreGood proxying.settings }
         ensures { (result ≡ 3) ⊎ (result ≡ 64) ⊎ ((result ≡ 0) × SaysSome (E.contents faults.old) (E.contents faults.new)) };

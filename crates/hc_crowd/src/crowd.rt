@@ -12,6 +12,7 @@ use hc_events::{Event, Happening};
 use hc_framing::MessageText;
 use hc_link_traits::{Awaiting, Batches, Happened, Links};
 use hc_order::{Occurrence, Receiver};
+use hc_peers::Peers;
 use std::alloc::{AllocError, Global};
 
 /// The links of many clients and of the origin, in one thread. None is waited for: what is ready comes in batches.
@@ -131,6 +132,13 @@ impl<W: World> Crowd<W> {
     /// The milliseconds that the world's clock has counted which is never set, as it was last looked at.
     pub fn tick(&self) -> u64 {
         self.traffic.links.time.tick
+    }
+
+    /// The links.
+    pub fn peers(&self) -> &Peers<W::Stream>
+        ensures { result.now ≡ self.now.traffic.links.peers }
+    {
+        self.traffic.links.peers()
     }
 
     /// How many clients have connected.

@@ -28,12 +28,13 @@ use hc_service::{
 use std::alloc::Global;
 use std::hash::BuildHasher;
 
-/// Behind a batch its records are kept for good, then what is owed leaves, and the next batch is waited for. Answers
-/// whether all is served.
-fn pause<S: BuildHasher, L: Batches, R: Recorder>(
+/// Behind a batch its records are kept for good, then what is owed leaves, all is looked at, and the next batch is waited
+/// for. Answers whether all is served.
+fn pause<S: BuildHasher, L: Batches, R: Recorder, V: Watcher<L, R>>(
     core: &Core<S>,
     links: &mut L,
     recorder: &mut R,
+    watcher: &mut V,
 ) -> Result<bool, DriveFault>
     ensures tells { (log : List Move) → L.tells links.old log → L.tells links.new log }
     ensures got { (text : List ℕ) → R.has_got recorder.old text → R.has_got recorder.new text }
@@ -44,9 +45,11 @@ fn pause<S: BuildHasher, L: Batches, R: Recorder>(
     ensures recorder { KeepsRecorder R.has_kept R.was_read recorder.old recorder.new }
     ensures count { CountsRecorder result (R.count recorder.old) (R.count recorder.new) }
     ensures why { IfErr result IsOfCarrying }
+    ensures watched { V.may_become watcher.old watcher.new }
 {
     flush(recorder)?;
     links.deliver(&Asked { core })?;
+    watcher.look(&*links, &*recorder);
     if links.is_over() {
         return Ok(true);
     }
@@ -80,21 +83,21 @@ fn serve_batches<S: BuildHasher, L: Batches, R: Recorder, V: Watcher<L, R>>(
     new_cache_agrees();
     a_new_cache_mirrors_what_is_before();
     'turns: for _ in 0..u64::MAX {
-        if round(alloc, core, links, recorder)? {
+        if round(alloc, core, links, recorder, watcher)? {
             continue;
         }
-        if pause(&*core, links, recorder)? {
+        if pause(&*core, links, recorder, watcher)? {
             return Ok(());
         }
-        watcher.look(&*links, &*recorder);
     }
     Err(DriveFault::Core(StepFault::Failed))
 }
 
 /// Serves clients at once, until the links are over: what happens is handed to the cache, and what the cache does is
-/// carried out, batch by batch. Behind each batch its records are flushed, before anything of it is written to a client:
-/// so, as far as the links tell what was written, no client has seen a reply that the recording lacks, whatever goes wrong.
-/// Then the watcher looks at the links and at the recorder. Where all is served, nothing is left open in the cache.
+/// carried out, batch by batch; the watcher hears and sees both. Behind each batch its records are flushed, before anything
+/// of it is written to a client: so, as far as the links tell what was written, no client has seen a reply that the
+/// recording lacks, whatever goes wrong. Then the watcher looks at the links and at the recorder. Where all is served,
+/// nothing is left open in the cache.
 ///
 /// A recorder that has fallen silent (`Lapsing` of hc_connection) never fails, so all goes on: then what stands in its file
 /// is a beginning of the recording, all of it for good where the recorder is full, and of what clients have seen since it

@@ -8,6 +8,7 @@ ghost use Rattle.hc_drive.specs.Drives.{GivesDrive};
 
 use crate::fault::DriveFault;
 use crate::rounds::round;
+use crate::watcher::Unwatched;
 use hc_link_traits::{Link, Links};
 use hc_machine::Core;
 use hc_order::what_may_happen_in_turn_is_served;
@@ -37,7 +38,7 @@ pub fn drive<S: BuildHasher, L: Links, R: Link>(
     runs_go_on();
     what_may_happen_in_turn_is_served();
     'rounds: for _ in 0..u64::MAX {
-        if !round(alloc, core, links, recorder)? {
+        if !round(alloc, core, links, recorder, &mut Unwatched)? {
             return Ok(());
         }
     }

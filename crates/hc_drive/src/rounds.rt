@@ -9,17 +9,19 @@ ghost use Rattle.hc_drive.specs.Rounds.{GivesRound, awaited_by};
 use crate::asked::Asked;
 use crate::carrying::carry_out;
 use crate::fault::DriveFault;
+use crate::watcher::Watcher;
 use hc_link_traits::{Link, Links};
 use hc_machine::Core;
 use std::alloc::Global;
 use std::hash::BuildHasher;
 
 /// One round. Answers whether something happened.
-pub(crate) fn round<S: BuildHasher, L: Links, R: Link>(
+pub(crate) fn round<S: BuildHasher, L: Links, R: Link, V: Watcher<L, R>>(
     alloc: Global,
     core: &mut Core<S>,
     links: &mut L,
     recorder: &mut R,
+    watcher: &mut V,
 ) -> Result<bool, DriveFault>
     ensures round { (log : List Move) (text : List ℕ) → L.tells links.old log → R.has_got recorder.old text
         → GivesRound (L.most links.old) (L.heeds (awaited_by core.old)) (L.tells links.new) (R.has_got recorder.new)
@@ -28,11 +30,14 @@ pub(crate) fn round<S: BuildHasher, L: Links, R: Link>(
     ensures links { KeepsLinks L.shows L.most L.bounds L.may_tell links.old links.new }
     ensures recorder { KeepsRecorder R.has_kept R.was_read recorder.old recorder.new }
     ensures count { CountsRecorder result (R.count recorder.old) (R.count recorder.new) }
+    ensures watched { V.may_become watcher.old watcher.new }
 {
     let Some(occurrence) = links.next(&Asked { core: &*core })? else {
         return Ok(false);
     };
+    watcher.hear(&*links, &occurrence);
     let actions = core.step(occurrence.event)?;
     carry_out(alloc, links, recorder, actions.as_slice())?;
+    watcher.see(&*links, &Asked { core: &*core }, actions.as_slice());
     Ok(true)
 }

@@ -88,6 +88,13 @@ impl<S: Stream> Flow<S> {
         flow
     }
 
+    /// The stream.
+    pub fn stream(&self) -> &S
+        ensures { result.now ≡ self.now.stream }
+    {
+        &self.stream
+    }
+
     /// Whether the link has failed.
     pub fn has_failed(&self) -> bool
         ensures { result ≡ self.now.failed }

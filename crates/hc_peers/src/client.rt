@@ -1,6 +1,6 @@
 //! One client's link.
 
-ghost use Rattle.std.specs.Prelude.{◌≡◌, ◌⊎◌, ◌&&◌, ◌||◌, not, Bool, true, false, [], Some, None, nat_lt, IsErr};
+ghost use Rattle.std.specs.Prelude.{◌≡◌, ◌⊎◌, ◌&&◌, ◌||◌, not, Bool, true, false, [], Some, None, nat_lt, length, IsErr};
 ghost use Rattle.hc_peers.specs.Leaving.{left_behind};
 
 use hc_flow::{Arrival, Emptying, Flow, Heard, Pace, Readiness, Stream, hear_flow, wants_turn};
@@ -300,6 +300,20 @@ impl<S: Stream> Client<S> {
         ensures { result ≡ self.now.cut }
     {
         self.cut
+    }
+
+    /// Its stream.
+    pub fn stream(&self) -> &S
+        ensures { result.now ≡ self.now.flow.stream }
+    {
+        self.flow.stream()
+    }
+
+    /// How many octets that were sent to it wait to be written.
+    pub fn owed(&self) -> usize
+        ensures { result ≡ length self.now.flow.outbox }
+    {
+        self.flow.held()
     }
 
     /// How many octets of memory are held for what is owed.

@@ -11,14 +11,32 @@ use hc_command::Server;
 use hc_crowd::{Limits, Patience};
 use hc_service::CoreSettings;
 use hc_serving::{
-    Claim, Health, Proxy, RecordTo, ServeFault, Service, Unrecordable, serve, serve_proxy,
+    AccessLog, Claim, Health, LogFile, LogTo, Proxy, RecordTo, ServeFault, Service, System, Target,
+    Unrecordable, serve, serve_proxy,
 };
+use std::alloc::AllocError;
 use std::io;
 use std::io::Write;
 use std::net::Net;
 use std::random::RandomSource;
 use std::rt::Files;
 use std::time::Clock;
+
+/// A system that has a standard output.
+pub(crate) trait Standard {
+    type Output: Write + Drop;
+
+    /// The standard output.
+    fn output(&self) -> Self::Output;
+}
+
+impl Standard for HostRuntime {
+    type Output = Stdout;
+
+    fn output(&self) -> Stdout {
+        self.stdout()
+    }
+}
 
 /// Serves clients by the sockets, the files, the clock and the random numbers of that system.
 #[derive(Clone, Copy)]
@@ -28,7 +46,7 @@ pub(crate) struct Sockets<'a, R> {
 
 impl<'a, R> Server for Sockets<'a, R>
 where
-    R: Files + Net + Clock + RandomSource + AllocGlobal,
+    R: Files + Net + Clock + RandomSource + Standard + AllocGlobal,
     R::File: Claim,
 {
     fn serve<E: Write>(&self, serving: Serving<'_>, faults: &mut E) -> u8 {
@@ -84,7 +102,7 @@ fn names_of(service: Service<'_>) -> Proxy<'_> {
 // Serves many clients at once.
 fn proxied<R, E: Write>(rt: &R, proxying: Proxying<'_>, faults: &mut E) -> u8
 where
-    R: Files + Net + Clock + RandomSource + AllocGlobal,
+    R: Files + Net + Clock + RandomSource + Standard + AllocGlobal,
     R::File: Claim,
     requires { AreGood proxying.settings }
     ensures { (result ≡ 3) ⊎ (result ≡ 64) ⊎ ((result ≡ 0) × SaysSome (E.contents faults.old) (E.contents faults.new)) }
@@ -93,6 +111,7 @@ where
         listen,
         origin,
         file,
+        log,
         terms,
         limits,
         keeps_cookies,
@@ -104,19 +123,53 @@ where
         recording: recording_to(file, terms),
         keeps_cookies,
     };
-    match proxy_ended(rt, proxy, in_milliseconds(limits), settings, faults) {
+    let mut log = match new_log(rt, log) {
+        Ok(log) => log,
+        Err(trouble) => return trouble.told(log.unwrap_or(""), faults),
+    };
+    match proxy_ended(
+        rt,
+        proxy,
+        in_milliseconds(limits),
+        settings,
+        &mut log,
+        faults,
+    ) {
         Ok(()) => 0,
         Err(ServeFault::Unrecordable(kind)) => unrecorded(kind, file_of(proxy), faults),
         Err(fault) => unserved(fault, proxy, faults),
     }
 }
 
+// An access log that goes there, if anywhere.
+fn new_log<'a, R>(
+    rt: &'a R,
+    name: Option<&'a str>,
+) -> Result<AccessLog<LogTo<'a, R, R::Output>>, Trouble>
+where
+    R: Files + Standard + AllocGlobal,
+{
+    let to = match name {
+        None => LogTo::Nowhere,
+        Some("-") => LogTo::Standard(rt.output()),
+        Some(name) => match LogFile::open(rt, name) {
+            Ok(file) => LogTo::File(file),
+            Err(reason) => return Err(Trouble::Device(reason)),
+        },
+    };
+    match AccessLog::new(rt.alloc(), to, name.is_some()) {
+        Ok(log) => Ok(log),
+        Err(AllocError) => Err(Trouble::Memory),
+    }
+}
+
 // Serves many clients at once, and answers how that ended, or why it didn't begin.
-fn proxy_ended<R, E: Write>(
+fn proxy_ended<R, L: Target, E: Write>(
     rt: &R,
     proxy: Proxy<'_>,
     limits: Limits,
     settings: CoreSettings,
+    log: &mut AccessLog<L>,
     faults: &mut E,
 ) -> Result<(), ServeFault>
 where
@@ -125,7 +178,12 @@ where
     requires { AreGood settings }
     ensures { SaysSome (E.contents faults.old) (E.contents faults.new) }
 {
-    match serve_proxy(rt, &Health::new(), proxy, limits, settings, faults) {
+    let health = Health::new();
+    let system = System {
+        rt,
+        health: &health,
+    };
+    match serve_proxy(system, proxy, limits, settings, log, faults) {
         Ok(served) => served.into_end(),
         Err(fault) => Err(fault),
     }

@@ -1,19 +1,27 @@
-//! What is amiss is told on standard error.
+//! What is amiss is told on standard error, and replies in the access log.
 
+use crate::logging::{Addressed, Clients};
 use crate::recorded::{RecordEnd, Recorded};
 use crate::wrongs::{SpokenWrongs, say_wrongs};
+use hc_access::{AccessLog, Target};
 use hc_crowd::{Counted, Crowd, World};
 use hc_drive::Watcher;
+use hc_link_traits::Awaiting;
 use hc_notices::{Notice, Voice};
+use hc_order::Occurrence;
+use hc_peers::MOST_TURNED_AWAY;
+use hc_service::Action;
 use hc_sockets::Health;
+use std::alloc::Global;
 use std::io::Write;
 
 /// So many milliseconds lie between two lines about failures of a kind at least.
 const PAUSE: u64 = 1_000;
 
-/// Says what is amiss: of each kind of failure a line a second at most, and once that the recording has ended.
+/// Says what is amiss: of each kind of failure a line a second at most, and once that the recording has ended. And has replies
+/// logged.
 #[derive(Drop)]
-pub(crate) struct Herald<'a, E: Write> {
+pub(crate) struct Herald<'a, E: Write, L: Target> {
     voice: Voice<'a, E>,
     health: &'a Health,
     /// What was told of what was wrong with what came, and with links.
@@ -25,14 +33,25 @@ pub(crate) struct Herald<'a, E: Write> {
     was_behind: bool,
     /// Whether it was told that the recording has ended.
     told_end: bool,
+    /// Where replies are logged, if they are.
+    log: &'a mut AccessLog<L>,
+    /// The guest who was turned away last, of those whose replies were logged.
+    turned_away: u64,
+    alloc: Global,
 }
 
-impl<'a, E: Write> Herald<'a, E> {
+impl<'a, E: Write, L: Target> Herald<'a, E, L> {
     ghost use Rattle.std.specs.Prelude.{◌≡◌};
     ghost use Rattle.hc_notices.specs.Voices.{GoesOn};
 
     /// By that voice, of the system that has this health. Of wrongs that were told nothing is said.
-    pub(crate) fn new(voice: Voice<'a, E>, health: &'a Health, wrongs: &'a mut SpokenWrongs) -> Self
+    pub(crate) fn new(
+        alloc: Global,
+        voice: Voice<'a, E>,
+        health: &'a Health,
+        wrongs: &'a mut SpokenWrongs,
+        log: &'a mut AccessLog<L>,
+    ) -> Self
         ensures { result.voice ≡ voice.entry }
     {
         Herald {
@@ -43,6 +62,9 @@ impl<'a, E: Write> Herald<'a, E> {
             polls_due: 0,
             was_behind: false,
             told_end: false,
+            log,
+            turned_away: 0,
+            alloc,
         }
     }
 
@@ -121,13 +143,64 @@ impl<'a, E: Write> Herald<'a, E> {
     }
 }
 
-impl<'a, W: World, T: Recorded, E: Write> Watcher<Crowd<W>, T> for Herald<'a, E> {
+impl<'a, E: Write, L: Target> Herald<'a, E, L> {
+    /// Has the replies logged that were written, and those to clients for whom there was no room.
+    fn look_at_replies<W: World>(&mut self, crowd: &Crowd<W>)
+    where
+        W::Stream: Addressed,
+        ensures { self.new.voice ≡ self.old.voice }
+    {
+        'guests: for _ in 0..MOST_TURNED_AWAY {
+            let next = self.turned_away.saturating_add(1);
+            let Some(guest) = crowd.peers().turned_away.first_from(next) else {
+                break;
+            };
+            self.turned_away = guest;
+            self.turn_away(guest, crowd);
+        }
+        self.log.look(&Clients { crowd });
+    }
+
+    /// Nothing more happens: what of the log waits is written.
+    pub(crate) fn finish_log(&mut self, tick: u64)
+        ensures { self.new.voice ≡ self.old.voice }
+    {
+        self.log.finish(tick);
+    }
+
+    /// Has the reply to a guest logged for whom there was no room.
+    fn turn_away<W: World>(&mut self, guest: u64, crowd: &Crowd<W>)
+    where
+        W::Stream: Addressed,
+        ensures { self.new.voice ≡ self.old.voice }
+    {
+        let mut address = Vec::new(self.alloc);
+        if let Some(stream) = crowd.peers().turned_away.get(guest) {
+            let _ = stream.push_address(&mut address);
+        }
+        self.log.turn_away(address.as_slice());
+    }
+}
+
+impl<'a, W: World, T: Recorded, E: Write, L: Target> Watcher<Crowd<W>, T> for Herald<'a, E, L>
+where
+    W::Stream: Addressed,
+{
     ghost use Rattle.hc_notices.specs.VoiceLaws.{joined, stays_as_it_is};
     ghost use Rattle.hc_notices.specs.Voices.{GoesOn};
 
     ghost may_become = { λ before after. GoesOn E.contents before.voice after.voice };
 
+    fn hear(&mut self, links: &Crowd<W>, occurrence: &Occurrence) {
+        self.log.hear(&Clients { crowd: links }, occurrence);
+    }
+
+    fn see<A: Awaiting>(&mut self, links: &Crowd<W>, cache: &A, actions: &[Action]) {
+        self.log.see(&Clients { crowd: links }, cache, actions);
+    }
+
     fn look(&mut self, links: &Crowd<W>, recorder: &T) {
+        self.look_at_replies(links);
         self.look_at(links.tick(), links.troubles().as_slice(), links.is_behind());
         self.look_at_recording(recorder);
     }

@@ -16,6 +16,7 @@ use crate::fault::ServeFault;
 use crate::recording::{FileRecorder, RecordTo, new_recorder};
 use crate::served::Served;
 use crate::watched::Opening;
+use hc_access::{AccessLog, Target};
 use hc_crowd::{Crowd, Limits, World};
 use hc_link_traits::{Batches, Link, Links};
 use hc_machine::{Core, CoreFault};
@@ -55,6 +56,15 @@ impl<'a> Proxy<'a> {
     }
 }
 
+/// The system by which clients are served, and where its failures are noted.
+#[derive(Clone, Copy)]
+pub struct System<'a, R> {
+    /// Its sockets, files and clocks.
+    pub rt: &'a R,
+    /// Where its failures are noted.
+    pub health: &'a Health,
+}
+
 /// Serves clients from a new cache of those settings, many at once in one thread, until the program is asked to stop, or as
 /// many have come as the limits say. The settings have to be such as a cache can have (`is_name` and `is_size` of
 /// hc_service). Where the system doesn't let so many files be open as the limits may want, or doesn't tell which signals are
@@ -71,18 +81,18 @@ impl<'a> Proxy<'a> {
 ///
 /// Once clients can connect, `faults` gets a line that says where. Later it gets one for each kind of failure of links,
 /// a second apart at least, one where the wall clock was set back, and one where the recording ends before serving does.
-/// Behind a line that can't be written it gets no other.
+/// Behind a line that can't be written it gets no other. The log gets a line for each reply, once it was written.
 ///
 /// Returns what clients were served by, and how that ended, or why it didn't begin. What its clauses say of links and of
 /// octets is what these tell: a crowd what it heard, sent and closed, the recorder what was written to it. Of the system's
 /// sockets and of its files no clause can say what passed there. Once a recording has ended, the recorder tells a beginning
 /// of what was written to it, and where nothing is recorded, nothing.
-pub fn serve_proxy<'a, R, E: Write>(
-    rt: &'a R,
-    health: &'a Health,
+pub fn serve_proxy<'a, R, L: Target, E: Write>(
+    system: System<'a, R>,
     proxy: Proxy<'a>,
     limits: Limits,
     settings: CoreSettings,
+    log: &mut AccessLog<L>,
     faults: &mut E,
 ) -> Result<Served<Sockets<'a, R>, FileRecorder<R::File>>, ServeFault>
 where
@@ -108,11 +118,13 @@ where
         (telling ⟦<Crowd<Sockets<'a, R>> as Links>⟧.tells ⟦<Crowd<Sockets<'a, R>> as Links>⟧.shows (OfRecorder ⟦<FileRecorder<R::File> as Link>⟧.has_got) (OfRecorder ⟦<FileRecorder<R::File> as Link>⟧.has_kept)
         served.crowd served.recorder) served.core) }
 {
+    let System { rt, health } = system;
     check_recording(rt, proxy.file())?;
     check_open_files(rt, limits)?;
     let sockets = new_sockets(rt, health, proxy)?;
     let addresses = listed(rt.alloc(), sockets.addresses())?;
     let start = Opening {
+        alloc: rt.alloc(),
         greeting: Greeting {
             addresses: addresses.as_str(),
             origin: proxy.origin,
@@ -123,7 +135,7 @@ where
         health,
     };
     let mut served = begun(rt, sockets, proxy, limits, settings)?;
-    served.serve(rt.alloc(), start, faults);
+    served.serve(start, log, faults);
     Ok(served)
 }
 

@@ -15,14 +15,15 @@ ghost use Rattle.hc_serving.specs.Outcomes.{EndsFor, IsBrokenDown};
 ghost use Rattle.hc_serving.specs.Proxies.{HasServed, OfRecorder, TellsEnd};
 
 use crate::fault::ServeFault;
+use crate::logging::Addressed;
 use crate::recorded::Recorded;
 use crate::watched::{Opening, serve_links};
+use hc_access::{AccessLog, Target};
 use hc_crowd::{Crowd, World};
 use hc_drive::DriveFault;
 use hc_link_traits::{Batches, Link, Links, Off, Recorder};
 use hc_machine::Core;
 use hc_sockets::{Breakdown, Health};
-use std::alloc::Global;
 use std::collections::hash_map::RandomState;
 use std::io;
 use std::io::{ErrorKind, Write};
@@ -66,8 +67,16 @@ impl<W: World + Drop, T: Recorder + Drop> Served<W, T> {
 }
 
 impl<W: World, T: Recorder + Recorded> Served<W, T> {
-    /// Serves those who come to the crowd, from the cache, and records, if anything is to be. What is amiss is said on `faults`.
-    pub(crate) fn serve<E: Write>(&mut self, alloc: Global, start: Opening<'_>, faults: &mut E)
+    /// Serves those who come to the crowd, from the cache, and records, if anything is to be. What is amiss is said on `faults`,
+    /// and what is replied on the log.
+    pub(crate) fn serve<L: Target, E: Write>(
+        &mut self,
+        start: Opening<'_>,
+        log: &mut AccessLog<L>,
+        faults: &mut E,
+    )
+    where
+        W::Stream: Addressed,
         ensures said { SaysSome (E.contents faults.old) (E.contents faults.new) }
         ensures ends { TellsEnd self.new.driven self.new.end }
         ensures recorder { is_some self.new.recorder ≡ is_some self.old.recorder }
@@ -85,11 +94,11 @@ impl<W: World, T: Recorder + Recorded> Served<W, T> {
             (telling ⟦<Crowd<W> as Links>⟧.tells ⟦<Crowd<W> as Links>⟧.shows (OfRecorder T.has_got) (OfRecorder T.has_kept) self.new.crowd self.new.recorder) self.new.core }
     {
         self.driven = serve_to(
-            alloc,
             &mut self.crowd,
             start,
             &mut self.core,
             &mut self.recorder,
+            log,
             faults,
         );
         self.end = told_of(self.driven, start.health, reason_of(&self.recorder));
@@ -97,14 +106,16 @@ impl<W: World, T: Recorder + Recorded> Served<W, T> {
 }
 
 /// Serves those who come to the crowd, from the cache, and records to that, if to anything.
-fn serve_to<W: World, T: Recorder + Recorded, E: Write>(
-    alloc: Global,
+fn serve_to<W: World, T: Recorder + Recorded, L: Target, E: Write>(
     crowd: &mut Crowd<W>,
     start: Opening<'_>,
     core: &mut Core<RandomState>,
     recorder: &mut Option<T>,
+    log: &mut AccessLog<L>,
     faults: &mut E,
 ) -> Result<(), DriveFault>
+where
+    W::Stream: Addressed,
     ensures said { SaysSome (E.contents faults.old) (E.contents faults.new) }
     ensures recorder { is_some recorder.new ≡ is_some recorder.old }
     ensures few { (log : List Move) (text : List ℕ) → ⟦<Crowd<W> as Links>⟧.tells crowd.old log → OfRecorder T.has_got recorder.old text
@@ -119,8 +130,8 @@ fn serve_to<W: World, T: Recorder + Recorded, E: Write>(
         (stage core.old log text) core.new }
 {
     match recorder {
-        Some(recorder) => serve_links(alloc, crowd, start, core, recorder, faults),
-        None => serve_links(alloc, crowd, start, core, &mut Off, faults),
+        Some(recorder) => serve_links(crowd, start, core, recorder, log, faults),
+        None => serve_links(crowd, start, core, &mut Off, log, faults),
     }
 }
 

@@ -13,8 +13,10 @@ ghost use Rattle.hc_drive.specs.Crowds.{GivesCrowd, GivesRecording, stage, telli
 ghost use Rattle.hc_notices.specs.Notices.{SaysSome};
 
 use crate::herald::Herald;
+use crate::logging::Addressed;
 use crate::recorded::Recorded;
 use crate::wrongs::SpokenWrongs;
+use hc_access::{AccessLog, Target};
 use hc_crowd::{Crowd, World};
 use hc_drive::{DriveFault, Watcher, serve_crowd};
 use hc_link_traits::{Batches, Links, Recorder};
@@ -28,6 +30,8 @@ use std::io::Write;
 /// What is said once clients can connect, and what is looked at later.
 #[derive(Clone, Copy)]
 pub struct Opening<'a> {
+    /// What gives memory.
+    pub alloc: Global,
     /// Where clients can connect, and what is behind that.
     pub greeting: Greeting<'a>,
     /// Whether signals that ask the program to stop can be seen.
@@ -37,18 +41,20 @@ pub struct Opening<'a> {
 }
 
 /// Serves those who come to the crowd, by the cache, until it is over, and records to that. What is amiss is said on
-/// `faults`.
+/// `faults`, and what is replied on the log.
 ///
 /// Its clauses but the first are those of `serve_crowd` of hc_drive, for what `serve_proxy` serves by: a crowd over any
 /// world, be it the system's sockets or one in memory, and a recorder that may end while serving goes on.
-pub fn serve_links<W: World, T: Recorder + Recorded, E: Write>(
-    alloc: Global,
+pub fn serve_links<W: World, T: Recorder + Recorded, L: Target, E: Write>(
     crowd: &mut Crowd<W>,
     start: Opening<'_>,
     core: &mut Core<RandomState>,
     recorder: &mut T,
+    log: &mut AccessLog<L>,
     faults: &mut E,
 ) -> Result<(), DriveFault>
+where
+    W::Stream: Addressed,
     ensures said { SaysSome (E.contents faults.old) (E.contents faults.new) }
     // There are no more links than its limits let there be, however it ends.
     ensures few { (log : List Move) (text : List ℕ) → ⟦<Crowd<W> as Links>⟧.tells crowd.old log → T.has_got recorder.old text
@@ -64,15 +70,17 @@ pub fn serve_links<W: World, T: Recorder + Recorded, E: Write>(
         → GivesCrowd (⟦<Crowd<W> as Links>⟧.most crowd.old) (⟦<Crowd<W> as Links>⟧.shows crowd.old log × T.has_kept recorder.old text) result
         (telling ⟦<Crowd<W> as Links>⟧.tells ⟦<Crowd<W> as Links>⟧.shows T.has_got T.has_kept crowd.new recorder.new) (stage core.old log text) core.new }
 {
+    let alloc = start.alloc;
     let voice = Voice::new(alloc, faults);
     let mut wrongs = SpokenWrongs::new(alloc);
-    let mut herald = Herald::new(voice, start.health, &mut wrongs);
+    let mut herald = Herald::new(alloc, voice, start.health, &mut wrongs, log);
     herald.say(Notice::Listening(start.greeting));
     herald.say_if(!start.hears_stops, Notice::Deaf);
     let served = served_by(alloc, core, crowd, recorder, &mut herald);
-    // Behind the last batch nobody has looked. What wasn't told yet is told now.
+    // What wasn't told yet is told now.
     herald.look_at(u64::MAX, crowd.troubles().as_slice(), crowd.is_behind());
     herald.look_at_recording(&*recorder);
+    herald.finish_log(crowd.tick());
     served
 }
 

@@ -3,8 +3,9 @@
 use hc_flow::{Arrival, Presence, Stream, Uptake};
 use mio::net::TcpStream;
 use mio::{Interest, Registry, Token};
+use std::io;
 use std::io::{ErrorKind, IoSlice, Read};
-use std::net::Shutdown;
+use std::net::{Shutdown, SocketAddr};
 
 /// A socket that is never waited for. It is told of no more once it is dropped.
 #[derive(Drop)]
@@ -16,6 +17,11 @@ impl Wire {
     /// That of a stream whose readiness is told.
     pub(crate) fn new(stream: TcpStream) -> Self {
         Wire { stream }
+    }
+
+    /// The address of the other side.
+    pub fn peer(&self) -> io::Result<SocketAddr> {
+        self.stream.peer_addr()
     }
 
     /// What becomes ready at it is told by that token from now on. Answers whether the system does that.

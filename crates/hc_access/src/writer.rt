@@ -1,15 +1,16 @@
-//! The access log, as it is written.
+//! What an access log is written by.
 
 ghost use Rattle.std.specs.Prelude.{◌≡◌, [], ◌^◌, ◌-◌, min};
 ghost use Rattle.hc_access.specs.Writing.{Mends, PutsAllBut, PutsLines, WritesSome, feeds_in};
 
+use crate::access_log::Target;
 use crate::lines::Lines;
 use std::alloc::Global;
 use std::io::Write;
 
-/// The access log, which is written to that: lines wait, and are written many at once. What can't be written is dropped,
+/// Writes the lines of an access log to that: they wait, and are written many at once. What can't be written is dropped,
 /// and its lines are counted.
-pub struct AccessLog<F: Write> {
+pub(crate) struct LogWriter<F: Target> {
     to: F,
     pub(crate) lines: Lines,
     /// Whether what was written last ends inside of a line.
@@ -18,9 +19,9 @@ pub struct AccessLog<F: Write> {
     pub(crate) lost: u64,
 }
 
-impl<F: Write + Drop> Drop for AccessLog<F> {
+impl<F: Target + Drop> Drop for LogWriter<F> {
     fn drop(self) {
-        let AccessLog {
+        let LogWriter {
             to,
             lines,
             torn: _,
@@ -31,13 +32,13 @@ impl<F: Write + Drop> Drop for AccessLog<F> {
     }
 }
 
-impl<F: Write> AccessLog<F> {
+impl<F: Target> LogWriter<F> {
     /// Nothing is written yet.
-    pub fn new(alloc: Global, to: F) -> Self
+    pub(crate) fn new(alloc: Global, to: F) -> Self
         ensures to { result.to ≡ to }
         ensures none { result.lines.octets.items ≡ [] }
     {
-        AccessLog {
+        LogWriter {
             to,
             lines: Lines::new(alloc),
             torn: false,
@@ -46,20 +47,29 @@ impl<F: Write> AccessLog<F> {
     }
 
     /// How many lines were dropped, since they couldn't be written, or memory was refused for them.
-    pub fn lost(&self) -> u64
+    pub(crate) fn lost(&self) -> u64
         ensures { result ≡ self.now.lost }
     {
         self.lost
     }
 
     /// How many octets of lines wait.
-    pub fn waiting(&self) -> usize {
+    pub(crate) fn waiting(&self) -> usize {
         self.lines.octets.len()
+    }
+
+    /// Goes on in another file, if the name leads to one by now.
+    pub(crate) fn follow(&mut self)
+        ensures { (self.new.lines ≡ self.old.lines) × (self.new.lost ≡ self.old.lost) }
+    {
+        if self.to.follow() {
+            self.torn = false;
+        }
     }
 
     /// Writes the lines that wait. Where all isn't taken, the rest is dropped; and the line that was cut is ended before
     /// others are written.
-    pub fn write(&mut self)
+    pub(crate) fn write(&mut self)
         ensures written { WritesSome (F.contents self.old.to) (F.contents self.new.to) self.old.lines.octets.items self.old.lost self.new.lost }
         ensures none { self.new.lines.octets.items ≡ [] }
     {

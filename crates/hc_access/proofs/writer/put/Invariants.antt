@@ -1,6 +1,6 @@
 use Rattle.std.proofs.Common.{length}
 use Rattle.hc_access.specs.Writing.{PutsAllBut}
-use Rattle.hc_access.proofs.log.put.Given as goal
+use Rattle.hc_access.proofs.writer.put.Given as goal
 
 -- so many were written, and the rest wasn't
 abbrev pub invariant-pieces : goal.invariant-pieces
