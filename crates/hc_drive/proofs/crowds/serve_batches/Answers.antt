@@ -44,7 +44,7 @@ turns-preserved-then-branch g c = record {
   limits = limits_stay c.turns.invariant.limits c.in_ok-round.ensures.links.limits;
   recorder = recorder_stays c.turns.invariant.recorder c.in_ok-round.ensures.recorder;
   count = c.in_ok-round.ensures.count ∙ c.turns.invariant.count;
-  watched = c.turns.invariant.watched;
+  watched = g.met.V.Watcher.goes_on c.args.watcher.now c.turns.watcher c.round.new.watcher c.turns.invariant.watched c.in_ok-round.ensures.watched;
 }
 
 pub turns-preserved : goal.turns-preserved
@@ -61,7 +61,8 @@ turns-preserved g c = record {
   limits = limits_stay c.turns.invariant.limits (limits_stay c.in_ok-round.ensures.links.limits c.in_ok-pause.ensures.limits);
   recorder = recorder_stays c.turns.invariant.recorder (recorder_stays c.in_ok-round.ensures.recorder c.in_ok-pause.ensures.recorder);
   count = c.in_ok-pause.ensures.count ∙ c.in_ok-round.ensures.count ∙ c.turns.invariant.count;
-  watched = g.met.V.Watcher.goes_on c.args.watcher.now c.turns.watcher c.look.new.self c.turns.invariant.watched c.look.ensures;
+  watched = g.met.V.Watcher.goes_on c.args.watcher.now c.round.new.watcher c.pause.new.watcher
+      (g.met.V.Watcher.goes_on c.args.watcher.now c.turns.watcher c.round.new.watcher c.turns.invariant.watched c.in_ok-round.ensures.watched) c.in_ok-pause.ensures.watched;
 }
 
 pub returns-then-branch-2-clause-serves : goal.returns-then-branch-2-clause-serves
