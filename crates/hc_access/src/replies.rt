@@ -143,16 +143,16 @@ impl Replies {
     }
 
     /// Takes in a record: what was asked stands until that is answered.
-    fn note_record(&mut self, record: &Record)
+    fn note_record(&mut self, given: &Record)
         ensures { (self.new.fresh ≡ self.old.fresh) × (self.new.lost ≡ self.old.lost) }
     {
-        match &record.of {
+        match &given.of {
             Passed::ClientRequest(message) => {
                 if let Ok(asked) = asked_of(self.alloc, message) {
-                    let _ = self.asked.insert(record.number, asked);
+                    let _ = self.asked.insert(given.number, asked);
                 }
             }
-            Passed::ClientReply(_) => self.answers = self.asked.remove(&record.number),
+            Passed::ClientReply(_) => self.answers = self.asked.remove(&given.number),
             Passed::OriginRequest { .. } => {}
             Passed::OriginResponse(_) => {}
             Passed::OriginFailure => {}

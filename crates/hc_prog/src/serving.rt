@@ -16,7 +16,7 @@ use hc_serving::{
 };
 use std::alloc::AllocError;
 use std::io;
-use std::io::Write;
+use std::io::{Stdout, Write};
 use std::net::Net;
 use std::random::RandomSource;
 use std::rt::Files;

@@ -1,12 +1,15 @@
 //! Where an access log goes, and what it asks of the clients of a crowd.
 
+ghost use Rattle.std.specs.Prelude.{None};
+
 use hc_access::{Target, Visited};
 use hc_crowd::{Crowd, World};
 use hc_sockets::Wire;
 use std::alloc::AllocError;
-use std::fs::{Metadata, MetadataExt, OpenFile, OpenOptions};
+use std::fs::{Metadata, OpenFile, OpenOptions};
 use std::io;
 use std::io::Write;
+use std::os::unix::fs::MetadataExt;
 use std::rt::Files;
 
 /// A link whose other side may have an address.
