@@ -20,13 +20,11 @@ pub trait Addressed {
 
 impl Addressed for Wire {
     fn push_address(&self, out: &mut Vec<u8>) -> Result<(), AllocError> {
-        match self.peer() {
-            Ok(address) => {
-                let address = address.ip();
-                write!(out, "{address}").map_err(|_| AllocError)
-            }
-            Err(_) => Ok(()),
-        }
+        let Some(peer) = self.peer() else {
+            return Ok(());
+        };
+        let address = peer.ip();
+        write!(out, "{address}").map_err(|_| AllocError)
     }
 }
 

@@ -20,6 +20,13 @@ struct Listener {
     ready: bool,
 }
 
+/// A client who has connected, and the address from which it did.
+#[derive(Drop)]
+pub(crate) struct Caller {
+    pub(crate) stream: TcpStream,
+    pub(crate) address: SocketAddr,
+}
+
 /// The sockets to which clients connect, each at an address.
 pub(crate) struct Listeners {
     listeners: Vec<Listener>,
@@ -87,10 +94,10 @@ impl Listeners {
     }
 
     /// The next client. The listeners have turns.
-    pub(crate) fn accept(&mut self) -> Accepted<TcpStream> {
+    pub(crate) fn accept(&mut self) -> Accepted<Caller> {
         'turns: for _ in 0..self.listeners.len() {
             match self.accept_in_turn() {
-                Accepted::Client(stream) => return Accepted::Client(stream),
+                Accepted::Client(caller) => return Accepted::Client(caller),
                 Accepted::Later => {}
                 Accepted::Full => return Accepted::Full,
             }
@@ -99,7 +106,7 @@ impl Listeners {
     }
 
     /// The next client of the listener whose turn it is.
-    fn accept_in_turn(&mut self) -> Accepted<TcpStream> {
+    fn accept_in_turn(&mut self) -> Accepted<Caller> {
         let turn = self.turn;
         self.turn = next_turn(turn, self.listeners.len());
         match self.listeners.get_mut(turn) {
@@ -138,12 +145,12 @@ impl Listener {
     }
 
     /// The next client. Behind an error the socket is asked again.
-    fn accept(&mut self) -> Accepted<TcpStream> {
+    fn accept(&mut self) -> Accepted<Caller> {
         if !self.ready {
             return Accepted::Later;
         }
         match accepted(&self.socket) {
-            Ok(stream) => Accepted::Client(stream),
+            Ok(caller) => Accepted::Client(caller),
             Err(error) if error.kind() == ErrorKind::WouldBlock => {
                 self.ready = false;
                 Accepted::Later
@@ -160,10 +167,10 @@ fn next_turn(turn: usize, count: usize) -> usize {
 }
 
 /// The next client. One that gives up before it is accepted is passed over.
-fn accepted(listener: &TcpListener) -> io::Result<TcpStream> {
+fn accepted(listener: &TcpListener) -> io::Result<Caller> {
     for _ in 0..TRIES {
         match listener.accept() {
-            Ok((stream, _)) => return Ok(stream),
+            Ok((stream, address)) => return Ok(Caller { stream, address }),
             Err(error) if error.kind() == ErrorKind::ConnectionAborted => {}
             Err(error) => return Err(error),
         }

@@ -6,7 +6,7 @@ ghost use Rattle.mio.specs.Event.{is_error, is_read_closed, is_readable, is_writ
 use crate::addresses::addresses_of;
 use crate::attempts::{Attempts, Stage};
 use crate::health::Health;
-use crate::listeners::Listeners;
+use crate::listeners::{Caller, Listeners};
 use crate::signals::Signals;
 use crate::tokens::Source;
 use crate::wire::Wire;
@@ -166,8 +166,22 @@ impl<'a, R: Net + Files + Clock> Sockets<'a, R> {
         None
     }
 
+    /// The link of a client who has connected, which is told of as that guest.
+    fn invited(&self, guest: u64, caller: Caller) -> Accepted<Wire> {
+        let Caller { stream, address } = caller;
+        match self.wired(stream, Source::Guest(guest), Some(address)) {
+            Some(wire) => Accepted::Client(wire),
+            None => Accepted::Full,
+        }
+    }
+
     /// What becomes ready at a stream is told from now on. None, where the system refuses that.
-    fn wired(&self, mut stream: TcpStream, source: Source) -> Option<Wire> {
+    fn wired(
+        &self,
+        mut stream: TcpStream,
+        source: Source,
+        peer: Option<SocketAddr>,
+    ) -> Option<Wire> {
         // A socket that refuses it works all the same.
         let _ = stream.set_nodelay(true);
         let token = source.token()?;
@@ -175,7 +189,7 @@ impl<'a, R: Net + Files + Clock> Sockets<'a, R> {
             .registry()
             .register(&mut stream, token, Interest::READABLE | Interest::WRITABLE)
             .ok()?;
-        Some(Wire::new(stream))
+        Some(Wire::new(stream, peer))
     }
 }
 
@@ -210,10 +224,7 @@ impl<'a, R: Net + Files + Clock> World for Sockets<'a, R> {
 
     fn accept(&mut self, guest: u64) -> Accepted<Wire> {
         match self.listeners.accept() {
-            Accepted::Client(stream) => match self.wired(stream, Source::Guest(guest)) {
-                Some(wire) => Accepted::Client(wire),
-                None => Accepted::Full,
-            },
+            Accepted::Client(caller) => self.invited(guest, caller),
             Accepted::Later => Accepted::Later,
             Accepted::Full => Accepted::Full,
         }
@@ -233,7 +244,7 @@ impl<'a, R: Net + Files + Clock> World for Sockets<'a, R> {
     fn connect(&mut self, forward: u64, attempt: u32) -> Option<Wire> {
         let first = self.attempts.first_address(forward, attempt);
         let (stream, address) = self.begin_connecting(first)?;
-        let wire = self.wired(stream, Source::Origin(forward, attempt))?;
+        let wire = self.wired(stream, Source::Origin(forward, attempt), None)?;
         self.attempts.begin(forward, attempt, address);
         Some(wire)
     }

@@ -3,7 +3,6 @@
 use hc_flow::{Arrival, Presence, Stream, Uptake};
 use mio::net::TcpStream;
 use mio::{Interest, Registry, Token};
-use std::io;
 use std::io::{ErrorKind, IoSlice, Read};
 use std::net::{Shutdown, SocketAddr};
 
@@ -11,17 +10,19 @@ use std::net::{Shutdown, SocketAddr};
 #[derive(Drop)]
 pub struct Wire {
     stream: TcpStream,
+    /// The address of the other side, if it connected to us.
+    peer: Option<SocketAddr>,
 }
 
 impl Wire {
-    /// That of a stream whose readiness is told.
-    pub(crate) fn new(stream: TcpStream) -> Self {
-        Wire { stream }
+    /// That of a stream whose readiness is told, to the side of that address, if it connected to us.
+    pub(crate) fn new(stream: TcpStream, peer: Option<SocketAddr>) -> Self {
+        Wire { stream, peer }
     }
 
-    /// The address of the other side.
-    pub fn peer(&self) -> io::Result<SocketAddr> {
-        self.stream.peer_addr()
+    /// The address of the other side, if it connected to us.
+    pub fn peer(&self) -> Option<SocketAddr> {
+        self.peer
     }
 
     /// What becomes ready at it is told by that token from now on. Answers whether the system does that.
