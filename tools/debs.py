@@ -1,5 +1,5 @@
-"""Files as a package of Debian has them: an archive of `ar` that holds two of `tar`. The same files give the same octets:
-nothing of this machine gets into them, and no time but the one that is said."""
+"""Files as a package of Debian has them: an archive of `ar` that holds two of `tar`. The same files give the same
+octets: nothing of this machine gets into them, and no time but the one that is said."""
 
 import collections
 import io

@@ -1,5 +1,5 @@
-"""Pages of the manual and completion for bash, made of texts of help: those of hcache's commands, and those that argparse
-prints for a tool. What a page has beside these stands in tools/packaged/manual.txt."""
+"""Pages of the manual and completion for bash, made of texts of help: those of hcache's commands, and those that
+argparse prints for a tool. What a page has beside these stands in tools/packaged/manual.txt."""
 
 import collections
 import re
@@ -53,9 +53,10 @@ def help_of_tool(name, text):
     (usage,), *blocks = blocks_of(text)
     needed = re.sub(r" *\[[^]]*\]", "", usage.removeprefix("usage: ")).split(" ", 1)[1]
     first = next(i for i, block in enumerate(blocks) if is_part(block))
-    parts = {block[0].rstrip(":"): [it for it in pairs_of(block[1:]) if it.head != "-h, --help"] for block in blocks[first:]}
+    parts = {heading.rstrip(":"): pairs_of(lines) for heading, *lines in blocks[first:]}
+    told = {heading: [it for it in pairs if it.head != "-h, --help"] for heading, pairs in parts.items()}
     return Help(["\n".join(block) for block in blocks[:first]], f"{name} [OPTIONS] {needed}",
-                {heading: pairs for heading, pairs in parts.items() if pairs})
+                {heading: pairs for heading, pairs in told.items() if pairs})
 
 
 # -- The pages
@@ -94,7 +95,8 @@ def shown(head):
 
 def linked(text):
     """A list of pages, with their names in bold."""
-    return NAMED.sub(lambda it: f"{bold(it[1])}(1)", text)
+    parts = enumerate(NAMED.split(text))
+    return "".join(f"{bold(it)}(1)" if number % 2 else escaped(it) for number, it in parts)
 
 
 def body_of(lines):
@@ -144,7 +146,7 @@ def sections_of(told, more):
         found["OPTIONS" if is_of_tool else heading.upper()] += [f".SS {heading}"] * is_of_tool
         found["OPTIONS" if is_of_tool else heading.upper()] += [line for it in pairs for line in pair_of(it)]
     for name, lines in more.items():
-        found[name] += [linked(escaped(it)) for it in lines if it] if name == "SEE ALSO" else body_of(lines)
+        found[name] += [linked(it) for it in lines if it] if name == "SEE ALSO" else body_of(lines)
     return found
 
 
@@ -259,7 +261,7 @@ def completion(name, helps):
     for command, told in helps.items():
         for option, value, text in options_of(told):
             if value:
-                ways[values_of(value, text)].append(f'"{command} {option}"'.replace('" ', '"'))
+                ways[values_of(value, text)].append(f'"{command} {option}"' if command else f'"{option}"')
     if commands:
         ways[among(commands)].append('"help help"')
     values = "".join(f"        {' | '.join(of)}) {way}; return ;;\n" for way, of in ways.items())
