@@ -139,8 +139,9 @@ def sections_of(told, more):
     """The sections of a page, each in lines: those of its help, and those that it has beside that."""
     found = collections.defaultdict(list)
     for block in told.about:
-        lines = block.split("\n")
-        found["DESCRIPTION"] += body_of(lines if len(lines) > 1 or block.endswith((".", ":")) else [f"{block}."])
+        # The help of a command has no full stop.
+        is_sentence = "\n" not in block and not block.startswith(" ") and not block.endswith((".", ":"))
+        found["DESCRIPTION"] += body_of((block + "." * is_sentence).split("\n"))
     for heading, pairs in told.parts.items():
         is_of_tool = heading.upper() not in ORDER
         found["OPTIONS" if is_of_tool else heading.upper()] += [f".SS {heading}"] * is_of_tool
