@@ -12,6 +12,8 @@ DEEP = " " * 8  # before what is said of a head in the line below it
 PART = re.compile(r"(\S.*):")
 PAIR = re.compile(r" +(\S.*?)(?:  +(.*))?")
 ABOUT = re.compile(r"(.*?)(?:: .*)?")
+NAMES_FILE = re.compile(r"[<\[]?(FILE|FOLDER|PATH)\b")
+WORDS = re.compile(r"with commas between the words: (.*)")
 DEFAULT = re.compile(r", and (\S+) without the option")
 NAMED = re.compile(r"(hcache(?:-[a-z]+)?)\(1\)")
 
@@ -228,11 +230,10 @@ def among(words):
 def values_of(value, text):
     """How the value of an option is completed: a name of a file, words that its help names, or what it is without the
     option; else it isn't."""
-    if value.strip("<>") == "FILE":
+    if NAMES_FILE.match(value):
         return "_{function}_files"
-    if value == "<WORD,..>":
-        words = text.split("between the words: ", 1)[1].split("; ")
-        return "_{function}_list " + " ".join(it.replace(",", "").split(" ")[0] for it in words)
+    if found := WORDS.search(text):
+        return "_{function}_list " + " ".join(re.split("[, ]", it)[0] for it in found[1].split("; "))
     if found := re.fullmatch(r"\{(.*)\}|([a-z0-9]+(?:\|[a-z0-9]+)+)", value):
         return among(re.split(r"[,|]", found[1] or found[2]))
     found = DEFAULT.search(text)
@@ -251,7 +252,7 @@ def options_of(told):
 
 def words_line(command, told):
     """The line of a completion that has the options of a command."""
-    files = " files=yes" if any(it.head == "<FILE>" for it in told.parts.get("Arguments", [])) else ""
+    files = " files=yes" if any(NAMES_FILE.match(it.head) for it in told.parts.get("Arguments", [])) else ""
     return f'        {command or "*"}) options="{" ".join(name for name, _, _ in options_of(told))}"{files} ;;\n'
 
 
