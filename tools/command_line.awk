@@ -1,9 +1,9 @@
 # usage: LC_ALL=C awk -f tools/command_line.awk -- HELP_FOLDER VALUES_FILE WORD..
 #
 # Answers the words of a command line of hcache that ask for nothing that has to be done: in the program's own words, and
-# without it. Where they ask for help or the version, or are refused, it prints the answer, and the status is 0 or 64. Else
-# the status is 1, and it prints which words name files to be read, in order: the number of each, counted from 1, and what
-# stands in the word before the name.
+# without it. Where they ask for help, or are refused, it prints the answer, and the status is 0 or 64. Where they ask for
+# the version, the status is 3. Else it is 1, and it prints which words name files to be read, in order: the number of
+# each, counted from 1, and what stands in the word before the name.
 #
 # Which commands, arguments and options there are it reads from the texts of help, and what their values may be from
 # VALUES_FILE. What it says is compared with what the program says by tools/try_script.
@@ -265,7 +265,7 @@ function take_flag(name, is_attached, given,    usage) {
     }
     settle(0)
     if (name == "help") show_help(asked)
-    if (name == "version") show_help("version")
+    if (name == "version") exit 3
     use(name, 0)
 }
 
@@ -281,7 +281,8 @@ function take_short(word,    letter) {
     letter = first_character(substr(word, 2))
     if (letter == "h" || (letter == "V" && (asked, "version") in is_option)) {
         settle(0)
-        show_help(letter == "h" ? asked : "version")
+        if (letter == "V") exit 3
+        show_help(asked)
     }
     settle(1)
     refuse("unexpected argument '-" letter "' found" tip_of_value("-" letter), plain_usage(asked))

@@ -15,6 +15,7 @@ import types
 import unproved as without_proof
 
 HERE = pathlib.Path(__file__).resolve().parent.parent
+IS_INSTALLED = not (HERE / "hcache").is_file()  # as a package does it, and no repository
 
 Ran = collections.namedtuple("Ran", "status output faults requests octets")
 
@@ -78,10 +79,12 @@ class Options(argparse.ArgumentParser):
         super().__init__(f"tools/{name}", description=text, formatter_class=argparse.RawDescriptionHelpFormatter)
 
     def add_program(self):
-        text = "the program hcache, in place of the proved one, which ./hcache builds"
-        self.add_argument("--program", metavar="PATH", help=text)
-        text = "run the program that isn't proved, which is built in some minutes"
-        self.add_argument("--unproved", action="store_true", help=text)
+        text = "the installed one" if IS_INSTALLED else "the proved one, which ./hcache builds"
+        self.add_argument("--program", metavar="PATH", help=f"the program hcache, in place of {text}")
+        self.set_defaults(unproved=False)
+        if not IS_INSTALLED:
+            text = "run the program that isn't proved, which is built in some minutes"
+            self.add_argument("--unproved", action="store_true", help=text)
 
     def error(self, message):
         """Ends with the status that tells of words that nothing can be made of."""
@@ -118,7 +121,9 @@ def hcache_by(options):
 
 def hcache(is_unproved=False):
     """The words by which hcache is run, once it is built: the program that HCACHE names, or else the proved one, or the
-    one that isn't proved."""
+    one that isn't proved; or the one that is installed."""
+    if IS_INSTALLED:
+        os.environ.setdefault("HCACHE", "hcache")
     if "HCACHE" in os.environ:
         need(os.environ["HCACHE"])
         return [os.path.abspath(shutil.which(os.environ["HCACHE"]))]
