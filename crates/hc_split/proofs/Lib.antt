@@ -1,0 +1,3 @@
+pub mod TextLemmas
+pub mod JoinedLemmas
+pub mod SplitLemmas
