@@ -5,9 +5,9 @@ ghost use Rattle.std.specs.Io.KnownBytes.{Appends};
 ghost use Rattle.hc_transcript.specs.Records.{opening};
 ghost use Rattle.hc_split.specs.Outlets.{position_line, table_of, text_of};
 
+use crate::tally::Tally;
 use hc_transcript::Format;
 use itoa::Buffer;
-use sha2::{Digest, Sha256};
 use std::io;
 use std::io::Write;
 
@@ -19,19 +19,6 @@ pub struct Outlet<W> {
     tally: Tally,
 }
 
-/// What has gone into a part.
-#[derive(Drop)]
-pub struct Tally {
-    /// How many records.
-    pub records: u64,
-    /// How many octets, the opening among them.
-    pub octets: u64,
-    /// What is to become the digest of these octets.
-    pub text: Sha256,
-    /// And that of its table.
-    pub table: Sha256,
-}
-
 impl<W: Write + Drop> Outlet<W> {
     /// A part of that format without a record: its opening alone.
     pub fn new(format: Format, mut text: W, table: W) -> io::Result<Self>
@@ -39,11 +26,9 @@ impl<W: Write + Drop> Outlet<W> {
         ensures table { IfOk result (λ outlet. outlet.table ≡ table) }
     {
         text.write_all(format.opening())?;
-        Ok(Outlet {
-            text,
-            table,
-            tally: Tally::new(format),
-        })
+        let mut tally = Tally::new();
+        tally.add_text(format.opening());
+        Ok(Outlet { text, table, tally })
     }
 
     // Puts the octets of a record, which has that position in the whole, behind those before it.
@@ -56,7 +41,9 @@ impl<W: Write + Drop> Outlet<W> {
         self.text.write_all(octets)?;
         self.table.write_all(line)?;
         self.table.write_all(b"\n")?;
-        self.tally.add(octets, line);
+        self.tally.add_text(octets);
+        self.tally.add_table(line);
+        self.tally.add_table(b"\n");
         Ok(())
     }
 
@@ -65,27 +52,6 @@ impl<W: Write + Drop> Outlet<W> {
         self.text.flush()?;
         self.table.flush()?;
         Ok(self.tally)
-    }
-}
-
-impl Tally {
-    fn new(format: Format) -> Self {
-        let mut text = Sha256::new();
-        text.update(format.opening());
-        Tally {
-            records: 0,
-            octets: format.opening().len() as u64,
-            text,
-            table: Sha256::new(),
-        }
-    }
-
-    fn add(&mut self, octets: &[u8], line: &[u8]) {
-        self.records = self.records.saturating_add(1);
-        self.octets = self.octets.saturating_add(octets.len() as u64);
-        self.text.update(octets);
-        self.table.update(line);
-        self.table.update(b"\n");
     }
 }
 

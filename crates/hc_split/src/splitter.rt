@@ -9,27 +9,14 @@ ghost use Rattle.hc_split.specs.Parting.{part_by};
 ghost use Rattle.hc_split.specs.Routing.{IsRouted, RoutesAs};
 ghost use Rattle.hc_split.specs.Splitting.{HasRead, IsSplitting, SplitsOn};
 
+use crate::fault::{SplitFault, fault_at};
 use crate::outlets::{Outlet, give};
 use crate::parts::Parts;
 use crate::records::TextReader;
 use crate::routes::{RouteFault, Routes};
-use hc_transcript::{Format, RecordFault};
+use hc_transcript::Format;
 use std::alloc::Global;
-use std::io;
 use std::io::Write;
-
-/// Why a recording isn't split.
-#[derive(Clone, Copy)]
-pub enum SplitFault {
-    /// It breaks at this position, by this fault.
-    Broken(u64, RecordFault),
-    /// Its parts were told for another recording.
-    Changed,
-    /// Memory was refused.
-    Memory,
-    /// A part can't be written, for this reason.
-    Output(io::Error),
-}
 
 /// Puts the records of a transcript of that format, which comes in pieces, into their parts.
 #[derive(Drop)]
@@ -77,7 +64,7 @@ impl Splitter {
     {
         match self.reader.feed(piece) {
             Ok(()) => Ok(()),
-            Err(fault) => Err(self.broken(fault)),
+            Err(fault) => Err(fault_at(&self.reader, fault)),
         }
     }
 
@@ -107,7 +94,7 @@ impl Splitter {
         ensures format { self.new.format ≡ self.old.format }
     {
         match self.reader.advance() {
-            Err(fault) => Err(self.broken(fault)),
+            Err(fault) => Err(fault_at(&self.reader, fault)),
             Ok(false) => Ok(false),
             Ok(true) => {
                 if self.reader.format() != Some(self.format) {
@@ -135,14 +122,6 @@ impl Splitter {
         }
     }
 
-    // Why nothing is read on, where that fault was met.
-    fn broken(&self, fault: RecordFault) -> SplitFault {
-        match fault {
-            RecordFault::Memory => SplitFault::Memory,
-            fault => SplitFault::Broken(self.reader.position(), fault),
-        }
-    }
-
     /// Ends the recording.
     pub fn finish(mut self) -> Result<(), SplitFault>
         ensures { (octets : List ℕ) (records : List Record) (h : List Item) → IsSplitting self octets records h
@@ -153,7 +132,7 @@ impl Splitter {
         }
         match self.reader.finish() {
             Ok(()) => Ok(()),
-            Err(fault) => Err(self.broken(fault)),
+            Err(fault) => Err(fault_at(&self.reader, fault)),
         }
     }
 }
