@@ -131,18 +131,19 @@ module _ {W : Type 0} (contents : W → Option (List ℕ)) where
     given = given_nothing contents (part_by first.parts) first.format outlets records h;
   }
 
-  pub splits_on : (before middle after : List (Outlet W)) (first mid last : Splitter) (octets : List ℕ) (records : List Record) (h : List Item)
-      → (one : SplitsOn contents before middle first mid octets records h) → SplitsOn contents middle after mid last octets one.others one.items
-      → SplitsOn contents before after first last octets records h
-  splits_on before middle after first mid last octets records h one two =
-      let more = splits_from middle after first mid last octets one.others one.items one.same_parts one.same_format two in
+  -- one goes on from where another one has come to, by octets that go on too
+  pub splits_on : (before middle after : List (Outlet W)) (first mid last : Splitter) (octets more : List ℕ) (records : List Record) (h : List Item)
+      → (one : SplitsOn contents before middle first mid octets records h) → SplitsOn contents middle after mid last more one.others one.items
+      → SplitsOn contents before after first last more records h
+  splits_on before middle after first mid last octets more records h one two =
+      let on = splits_from middle after first mid last more one.others one.items one.same_parts one.same_format two in
       record {
-        others = more.others;
-        items = more.items;
-        is = more.is;
-        same_parts = more.same_parts;
-        same_format = more.same_format;
-        given = given_on contents (part_by first.parts) first.format before middle after records one.others more.others h one.items more.items one.given more.given;
+        others = on.others;
+        items = on.items;
+        is = on.is;
+        same_parts = on.same_parts;
+        same_format = on.same_format;
+        given = given_on contents (part_by first.parts) first.format before middle after records one.others on.others h one.items on.items one.given on.given;
       }
 
   -- a record that was read goes where it is routed
