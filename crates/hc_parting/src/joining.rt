@@ -115,7 +115,7 @@ fn part_told<R: Files + AllocGlobal, E: Write>(
     faults: &mut E,
 ) -> Result<Told, Trouble> {
     let name = part_name(rt.alloc(), dir, number)?;
-    match seen(rt, name.as_str(), table_name(rt.alloc(), dir, number)?.as_str()) {
+    match files_seen(rt, name.as_str(), table_name(rt.alloc(), dir, number)?.as_str()) {
         Ok(seen) => {
             if entry_line(rt.alloc(), number, &seen.extent)?.as_bytes() != line {
                 let why = "it, or its table, isn't as it was split";
@@ -187,7 +187,7 @@ struct Seen {
 }
 
 // What the part has in the files of those names.
-fn seen<R: Files + AllocGlobal>(rt: &R, text: &str, table: &str) -> Result<Seen, Trouble> {
+fn files_seen<R: Files + AllocGlobal>(rt: &R, text: &str, table: &str) -> Result<Seen, Trouble> {
     let mut tally = Tally::new();
     let table = octets_in(rt, table)?;
     tally.add_table(table.as_slice());
