@@ -62,10 +62,7 @@ impl Fed<()> for Choosing {
 }
 
 /// The families of the targets of what `input` gives, and the format of that.
-pub(crate) fn chosen<R: Read>(
-    alloc: Global,
-    input: &mut R,
-) -> Result<(Format, Families), Stop> {
+pub(crate) fn chosen<R: Read>(alloc: Global, input: &mut R) -> Result<(Format, Families), Stop> {
     let mut piece = buffer(alloc).map_err(Trouble::from)?;
     let reader = FamilyReader::new(alloc);
     chosen_by(Choosing { reader }, input, piece.as_mut_slice())

@@ -115,7 +115,11 @@ fn part_told<R: Files + AllocGlobal, E: Write>(
     faults: &mut E,
 ) -> Result<Told, Trouble> {
     let name = part_name(rt.alloc(), dir, number)?;
-    match files_seen(rt, name.as_str(), table_name(rt.alloc(), dir, number)?.as_str()) {
+    match files_seen(
+        rt,
+        name.as_str(),
+        table_name(rt.alloc(), dir, number)?.as_str(),
+    ) {
         Ok(seen) => {
             if entry_line(rt.alloc(), number, &seen.extent)?.as_bytes() != line {
                 let why = "it, or its table, isn't as it was split";

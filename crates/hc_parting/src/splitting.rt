@@ -12,11 +12,10 @@ use hc_history::Verdict;
 use hc_split::{Outlet, Parts, SplitFault};
 use hc_transcript::{Format, RecordFault};
 use std::alloc::{AllocError, Global};
-use std::fs;
 use std::fs::File;
-use std::io;
 use std::io::{BufWriter, Write};
 use std::rt::Files;
+use std::{fs, io};
 
 /// What is split, into how many parts, and where they go.
 #[derive(Clone, Copy)]
@@ -69,7 +68,10 @@ where
         Err(Unsplit::Malformed(position, fault)) => {
             malformed(rt.alloc(), position, fault, output, faults)
         }
-        Err(Unsplit::Pipe) => refused("it is read twice, so it can't be a pipe or a device", faults),
+        Err(Unsplit::Pipe) => refused(
+            "it is read twice, so it can't be a pipe or a device",
+            faults,
+        ),
         Err(Unsplit::Taken) => refused("the folder of the parts isn't empty", faults),
         Err(Unsplit::Input(trouble)) => trouble.told(order.file, faults),
         Err(Unsplit::Output(error)) => Trouble::Device(error).told(order.dir, faults),
@@ -186,10 +188,7 @@ fn outlet_in<R: Files + AllocGlobal>(
 }
 
 // A file that is made, which wasn't there, behind a buffer.
-fn new_file<R: Files + AllocGlobal>(
-    rt: &R,
-    name: &str,
-) -> Result<BufWriter<R::File>, Unsplit> {
+fn new_file<R: Files + AllocGlobal>(rt: &R, name: &str) -> Result<BufWriter<R::File>, Unsplit> {
     let file = File::create_new(rt, name).map_err(Unsplit::Output)?;
     BufWriter::new(rt.alloc(), file).map_err(Unsplit::Output)
 }
@@ -226,10 +225,7 @@ fn noted<R: Files + AllocGlobal>(
 }
 
 // The text that says what the parts are, which are closed.
-fn manifest_of<W: Write + Drop>(
-    alloc: Global,
-    outlets: Vec<Outlet<W>>,
-) -> Result<String, Unsplit> {
+fn manifest_of<W: Write + Drop>(alloc: Global, outlets: Vec<Outlet<W>>) -> Result<String, Unsplit> {
     let mut entries = String::new(alloc);
     let mut records = 0u64;
     let mut number = 0usize;

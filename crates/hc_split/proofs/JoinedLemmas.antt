@@ -1,5 +1,5 @@
 -- One part more, and all parts.
-use Rattle.std.proofs.Common.{inl, inr, ◌≡◌, ◌≢◌, ◌⊎◌, ◌<◌, ◌≤◌, ◌+◌, ℕ, zero, suc, List, length, Some, refl, sym, ap, subst, ◌∙◌, arith}
+use Rattle.std.proofs.Common.{inl, inr, ◌≡◌, ◌≢◌, ◌⊎◌, ◌<◌, ◌≤◌, ◌+◌, ℕ, zero, suc, List, Some, sym, ap, subst, ◌∙◌, arith}
 use Rattle.std.specs.Prelude.{slice_get}
 use Rattle.hc_head.specs.declared.head.Target.{Target}
 use Rattle.hc_transcript.specs.declared.format.Format.{Format}
@@ -9,7 +9,7 @@ use Rattle.hc_transcript.specs.Transcript.{IsTranscript}
 use Rattle.hc_history.specs.declared.reasons.Reason.{Reason}
 use Rattle.hc_history.specs.declared.settings.Settings.{Settings}
 use Rattle.hc_history.specs.declared.verdicts.Counts.{Counts}
-use Rattle.hc_history.specs.declared.verdicts.Verdict.TheVariants.{Yes, No}
+use Rattle.hc_history.specs.declared.verdicts.Verdict.TheVariants.{Yes}
 use Rattle.hc_history.specs.Verdicts.{IsVerdict}
 use Rattle.hc_parts.specs.Joining.{AreRightParts, IsClearBefore, IsPartWrong, added}
 use Rattle.hc_parts.specs.Parts.{KeepsCauses, part_octets}
@@ -18,7 +18,7 @@ use Rattle.hc_split.specs.declared.joining.Joined.{Joined}
 use Rattle.hc_split.specs.declared.joining.Joined.TheVariants as whole
 use Rattle.hc_split.specs.declared.joining.Told.{Told}
 use Rattle.hc_split.specs.declared.joining.Told.TheVariants as part
-use Rattle.hc_split.specs.Joined.{AllAreTold, IsFirstOf, IsTold, JoinsFirst, SaysOfWhole}
+use Rattle.hc_split.specs.Joined.{AllAreTold, IsFirstOf, JoinsFirst, SaysOfWhole}
 
 -- a number below the next one is below, or is it
 below_next : (j n : ℕ) → j < n + 1 → (j < n) ⊎ (j ≡ n)
@@ -30,6 +30,7 @@ all_told n told one at some before j lt none = by (below_next j n lt)
   where
     same : Some one ≡ Some part.Nothing → one ≡ part.Nothing
     same e = cc
+
     by : (j < n) ⊎ (j ≡ n) → ⊥
     by (inl less) = before j less none
     by (inr is) = some (same (sym at ∙ ap (λ (k : ℕ). slice_get told k) (sym is) ∙ none))

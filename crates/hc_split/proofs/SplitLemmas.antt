@@ -36,9 +36,11 @@ gets_nothing : (a : Option (List ℕ)) (text : List ℕ) → GetsMore a a text t
 gets_nothing a text = ([], appends_nothing a, sym (append-nil text))
 
 gets_twice : (a b c : Option (List ℕ)) (one two three : List ℕ) → GetsMore a b one two → GetsMore b c two three → GetsMore a c one three
-gets_twice a b c one two three first then-more =
-    (first.0 ++ then-more.0, appends_twice a b c first.0 then-more.0 first.1 then-more.1,
-    then-more.2 ∙ ap (λ (o : List ℕ). o ++ then-more.0) first.2 ∙ append_assoc one first.0 then-more.0)
+gets_twice a b c one two three first then-more = (
+  first.0 ++ then-more.0,
+  appends_twice a b c first.0 then-more.0 first.1 then-more.1,
+  then-more.2 ∙ ap (λ (o : List ℕ). o ++ then-more.0) first.2 ∙ append_assoc one first.0 then-more.0,
+)
 
 -- ---- where a record goes
 

@@ -5,7 +5,7 @@ use Rattle.hc_transcript.specs.declared.format.Format.{Format}
 use Rattle.hc_transcript.specs.declared.reader.RecordReader.{RecordReader}
 use Rattle.hc_transcript.specs.declared.record.Record.{Record}
 use Rattle.hc_transcript.specs.Items.{Item}
-use Rattle.hc_transcript.specs.Reader.{Agrees, KeepsFormat, ReadsTo, format_read}
+use Rattle.hc_transcript.specs.Reader.{Agrees, KeepsFormat, ReadsTo}
 use Rattle.hc_transcript.specs.Records.{opening, record_text, records_text}
 use Rattle.hc_split.specs.Openings.{opening_between}
 
@@ -17,7 +17,7 @@ fed_by (Some format) octets piece records h old new before after =
     let front = opening format in
     let text = records_text format records in
     let one : front ++ (text ++ (old ++ piece)) ≡ octets ++ piece =
-        ap (λ (t : List ℕ). front ++ t) (sym (append_assoc text old piece)) ∙ sym (append_assoc front (text ++ old) piece) ∙ sym (ap (λ (o : List ℕ). o ++ piece) before.octets_are) in
+    ap (λ (t : List ℕ). front ++ t) (sym (append_assoc text old piece)) ∙ sym (append_assoc front (text ++ old) piece) ∙ sym (ap (λ (o : List ℕ). o ++ piece) before.octets_are) in
     sym (append_cancel_left text (old ++ piece) new (append_cancel_left front (text ++ (old ++ piece)) (text ++ new) (one ∙ after.octets_are)))
 
 -- where no record is read, what is unread loses the opening, if that is read

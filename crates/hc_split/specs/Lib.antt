@@ -5,3 +5,4 @@ pub mod Routing
 pub mod Outlets
 pub mod Splitting
 pub mod Joined
+pub mod Tables

@@ -74,11 +74,7 @@ impl Families {
         }
     }
 
-    fn open_exchange(
-        &mut self,
-        number: u64,
-        target: &Target,
-    ) -> Result<Option<usize>, AllocError> {
+    fn open_exchange(&mut self, number: u64, target: &Target) -> Result<Option<usize>, AllocError> {
         let known = self.number_of(target)?;
         self.exchanges.insert(number, known)?;
         Ok(Some(known))

@@ -1,4 +1,4 @@
-use Rattle.hc_split.proofs.JoinedLemmas.{right_right, right_wrong}
+use Rattle.hc_split.proofs.JoinedLemmas.{right_wrong}
 use Rattle.hc_split.proofs.joining.behind_right.Goals as goal
 
 pub returns-in-Wrong-clause-says : goal.returns-in-Wrong-clause-says

@@ -1,4 +1,4 @@
-use Rattle.std.proofs.Common.{◌≡◌, ◌≤◌, ◌<◌, ℕ, length, arith, subst}
+use Rattle.std.proofs.Common.{◌≡◌, ℕ, length, arith, subst}
 use Rattle.std.proofs.lemmas.Option.{slice_get-get_or}
 use Rattle.hc_split.specs.Joined.{JoinsFirst}
 use Rattle.hc_split.proofs.JoinedLemmas.{joins_all}

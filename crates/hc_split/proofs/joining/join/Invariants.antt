@@ -11,5 +11,5 @@ use Rattle.hc_split.proofs.joining.join.Given as goal
 abbrev pub invariant-loop-number : goal.invariant-loop-number
 invariant-loop-number l =
     ((part : Target → ℕ) (format : Format) (settings : Settings) (records : List Record) (h : List Item) → AreTold part format settings records h l.told
-        → JoinsFirst part format settings records h l.number l.so_far)
+    → JoinsFirst part format settings records h l.number l.so_far)
     × FindsLacking l.number l.told l.so_far

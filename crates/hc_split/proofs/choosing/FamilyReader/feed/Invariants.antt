@@ -1,4 +1,3 @@
-use Rattle.std.proofs.Common.{ℕ}
 use Rattle.hc_transcript.specs.Reader.{unread}
 use Rattle.hc_split.proofs.choosing.FamilyReader.feed.Given as goal
 

@@ -1,4 +1,4 @@
-use Rattle.std.proofs.Common.{◌≡◌, ◌++◌, ◌∙◌, ℕ, List, ap, sym, drop}
+use Rattle.std.proofs.Common.{◌++◌, ◌∙◌, ℕ, List, ap, sym, drop}
 use Rattle.std.proofs.lemmas.List.{drop-append-le}
 use Rattle.hc_split.proofs.TextLemmas.{goes_on_by}
 use Rattle.hc_split.proofs.records.TextReader.feed.Goals as goal
