@@ -428,7 +428,7 @@ function is_right(kind, text, least, most) {
     if (kind == "words") return text == "all" || are_words(text)
     if (kind == "origin") return text !~ /:[+]?0+$/
     if (kind == "name") return length(text) <= 32 && text ~ /^[A-Za-z][-A-Za-z0-9_.]*$/
-    return asked != "explain" || text != "-"
+    return asked !~ /^(explain|split)$/ || text != "-"
 }
 
 # What is said of a value that is not of that kind.

@@ -36,7 +36,7 @@ use Rattle.hc_options.specs.Rows.{Entry, IsAmong, judging, terms}
 use Rattle.hc_options.specs.Settings.{AsksSettings, plain}
 use Rattle.hc_options.specs.Values.{count_by, count_or_zero, flag_by, ignored_by, number_by, number_of, number_or, number_within, size_from, unmarked_by}
 use Rattle.hc_options.proofs.AuditWordLemmas.{one_some}
-use Rattle.hc_options.proofs.FaultLemmas.{AreFine, Judges, any_fine, appended, audit_fine, none_refused, settings_fine, terms_fine, there}
+use Rattle.hc_options.proofs.FaultLemmas.{AreFine, Judges, any_fine, appended, audit_fine, minimums_fine, none_refused, settings_fine, terms_fine, there}
 use Rattle.hc_options.proofs.ParseLemmas.{IsNoFlag, no_flag, not_hyphen, same_values}
 use Rattle.hc_arguments.specs.declared.order.Order.{Order}
 use Rattle.hc_arguments.specs.declared.order.ProxyLimits.{ProxyLimits}
@@ -50,10 +50,10 @@ use Rattle.hc_arguments.specs.Positions.{len_before_hyphen, positive_of, span_be
 use Rattle.hc_arguments.specs.Tables.{Command, abandoned, caching, command_named, connect_timeout, drain_timeout, entries_of, held, idle_timeout, max_connections}
 use Rattle.hc_arguments.specs.Tables.{origin_connections, origin_timeout, origin_total, proxying, queue_timeout, reporting, request_timeout, send_timeout, serving, taken_by}
 use Rattle.hc_arguments.specs.Tables.{explaining_form}
-use Rattle.hc_arguments.specs.Tables.Command.{Audits, Reports, Explains, Shows, Replays, Converts, Serves, Proxies}
+use Rattle.hc_arguments.specs.Tables.Command.{Audits, Reports, Explains, Shows, Replays, Converts, Splits, Joins, Serves, Proxies}
 use Rattle.hc_arguments.specs.Tasks.{Asks, AsksBy, AsksIn, AsksProxy, AsksService, CanBeDone, IsRefused, RefusesBy, RefusesIn, Task, ValuesAsk}
 use Rattle.hc_arguments.specs.Tasks.{command_in, command_of, explaining, plain_form, proxy_words, service_words, task_of}
-use Rattle.hc_arguments.specs.Tasks.Task.{ToAudit, ToReport, ToExplain, ToShow, ToReplay, ToConvert, ToServe, ToProxy}
+use Rattle.hc_arguments.specs.Tasks.Task.{ToAudit, ToReport, ToExplain, ToShow, ToReplay, ToConvert, ToSplit, ToJoin, ToServe, ToProxy}
 
 -- the command is one of which a parse is known exactly
 pub hcache_is_simple : is_simple_and_free hcache ≡ true
@@ -153,6 +153,9 @@ task_from Explains value = option_map (λ p. ToExplain p.0 record { position = p
 task_from Shows value = option_map (λ p. ToShow p.0 p.1) (both (value (codes "FILE")) (option_and_then span_of (value (codes "POSITION[-POSITION]"))))
 task_from Replays value = option_map ToReplay (value (codes "FILE"))
 task_from Converts value = option_map ToConvert (value (codes "FILE"))
+task_from Splits value = option_map (λ p. ToSplit p.0 p.1.0 p.1.1)
+    (both (file_named (value (codes "FILE"))) (both (option_and_then (λ o. o) (number_by (Number 1 500) (value (codes "N")))) (value (codes "DIR"))))
+task_from Joins value = option_map (λ p. ToJoin p.0 p.1) (both (value (codes "DIR")) (minimums_from value))
 task_from Serves value = option_map (λ p. ToServe p.0.0 p.0.1 p.1.0.0 p.1.0.1 p.1.1)
     (both (both (value (codes "listen")) (value (codes "origin")))
     (both (both (option_and_then (λ o. o) (number_by (Number 1 greatest_number) (value (codes "connections")))) (value (codes "record"))) (cache_from keys_served value)))
@@ -239,6 +242,12 @@ values_give value (ToExplain file terms) a =
 values_give value (ToShow file span) a = λ i. option_map (λ p. ToShow p.0 p.1) (both (a.file_is i) (a.span_is i))
 values_give value (ToReplay file) a = ap (option_map ToReplay) a
 values_give value (ToConvert file) a = ap (option_map ToConvert) a
+values_give value (ToSplit file parts dir) a =
+    let named = ap file_named a.file_is ∙ ap (λ b. cond b None (Some file)) a.file_has_name in
+    λ i. option_map (λ p. ToSplit p.0 p.1.0 p.1.1) (both (named i) (both (option_and_then (λ o. o) (a.parts_are i)) (a.dir_is i)))
+values_give value (ToJoin dir least) a =
+    let set = minimums_given value least a.minimums_are in
+    λ i. option_map (λ p. ToJoin p.0 p.1) (both (a.dir_is i) (set i))
 values_give value (ToServe listen origin connections file settings) a =
     let set = cache_given keys_served value settings a.settings_are in
     λ i. option_map (λ p. ToServe p.0.0 p.0.1 p.1.0.0 p.1.0.1 p.1.1)
@@ -423,6 +432,11 @@ values_fine value (ToShow file span) a =
     (there taken_by taken_by_judges (value (codes "FILE")) file a.file_is, (spanned span (value (codes "POSITION[-POSITION]")) a.span_is, tt))
 values_fine value (ToReplay file) a = (there taken_by taken_by_judges (value (codes "FILE")) file a, tt)
 values_fine value (ToConvert file) a = (there taken_by taken_by_judges (value (codes "FILE")) file a, tt)
+values_fine value (ToSplit file parts dir) a = (
+  file_taken file (value (codes "FILE")) a.file_is a.file_has_name,
+  (numbered_there 1 500 parts (value (codes "N")) a.parts_are, (there taken_by taken_by_judges (value (codes "DIR")) dir a.dir_is, tt)),
+)
+values_fine value (ToJoin dir least) a = (there taken_by taken_by_judges (value (codes "DIR")) dir a.dir_is, minimums_fine taken_by taken_by_judges value least a.minimums_are)
 values_fine value (ToServe listen origin connections file settings) a =
     appended taken_by value serving caching (serving_fine value listen origin connections file settings a) (cache_fine keys_served value settings a.settings_are)
 values_fine value (ToProxy listen origin file log terms limits keeps_cookies settings) a =
@@ -505,6 +519,17 @@ last_is_one None span is = absurd (none_is_some _ span refl is)
 last_is_one (Some text) span is =
     last_of (take (len_before_hyphen text) text) (drop (len_before_hyphen text) text) span (positive_of (take (len_before_hyphen text) text)) refl is
 
+-- there are some parts
+parts_of_text : (digits some few : Bool) (value number : ℕ) → nat_le 1 value ≡ some → option_map Some (cond (digits && (some && few)) (Some value) None) ≡ Some (Some number) → 0 < number
+parts_of_text true true true value number is taken = let same : value ≡ number = search rules in subst (λ (n : ℕ). 0 < n) same (leb-true 1 value is)
+parts_of_text true true false value number is taken = absurd cc
+parts_of_text true false few value number is taken = absurd cc
+parts_of_text false some few value number is taken = absurd cc
+
+some_parts : (o : Option Text) (number : ℕ) → number_by (Number 1 500) o ≡ Some (Some number) → 0 < number
+some_parts None number is = absurd cc
+some_parts (Some text) number is = parts_of_text (is_number text) (nat_le 1 (digits_value 10 text)) (nat_le (digits_value 10 text) 500) (digits_value 10 text) number refl is
+
 pub possible_from : (command : Option Command) (value : Text → Option Text) (task : Task) → AsksBy command value task → CanBeDone task
 possible_from command value (ToAudit file asked) asks = tt
 possible_from command value (ToReport file asked form) asks = tt
@@ -512,6 +537,8 @@ possible_from command value (ToExplain file asked) asks = tt
 possible_from command value (ToShow file span) asks = last_is_one (value (codes "POSITION[-POSITION]")) span asks.1.span_is
 possible_from command value (ToReplay file) asks = tt
 possible_from command value (ToConvert file) asks = tt
+possible_from command value (ToSplit file parts dir) asks = some_parts (value (codes "N")) parts asks.1.parts_are
+possible_from command value (ToJoin dir least) asks = tt
 possible_from command value (ToServe listen origin connections file settings) asks = good_cache keys_served value settings refl asks.1.settings_are
 possible_from command value (ToProxy listen origin file log asked limits keeps_cookies settings) asks = good_cache keys_proxied value settings refl asks.1.settings_are
 

@@ -7,7 +7,7 @@ use Rattle.hc_service.specs.Settings.{is_name}
 use Rattle.hc_options.specs.declared.rows.Kind.TheVariants.{Valued}
 use Rattle.hc_options.specs.declared.rows.Takes.{Takes}
 use Rattle.hc_options.specs.declared.rows.Takes.TheVariants.{AnyText, FileName, Count, Number, Size, AllowedWords, Names, VaryNames, CacheName, Positions, OriginAddress}
-use Rattle.hc_options.specs.Rows.{Entry, argument, audit_entries, audited, flag, is_taken, judging, option, terms}
+use Rattle.hc_options.specs.Rows.{Entry, argument, audit_entries, audited, counting, flag, is_taken, judging, option, terms}
 use Rattle.hc_arguments.specs.Origins.{is_origin}
 use Rattle.hc_arguments.specs.Positions.{span_of}
 
@@ -44,6 +44,13 @@ position = argument (codes "POSITION") (Number 1 greatest_number) false
 -- the records that are shown
 abbrev pub span : Entry
 span = argument (codes "POSITION[-POSITION]") Positions true
+
+-- into how many parts is split, and where they go
+abbrev pub parts : Entry
+parts = argument (codes "N") (Number 1 500) true
+
+abbrev pub folder : Entry
+folder = argument (codes "DIR") AnyText true
 
 -- in which form is explained, and reported
 abbrev pub explaining_form : List Entry
@@ -114,6 +121,8 @@ pub data Command : Type 0 where
   Shows : Command
   Replays : Command
   Converts : Command
+  Splits : Command
+  Joins : Command
   Serves : Command
   Proxies : Command
 
@@ -121,7 +130,8 @@ abbrev pub command_named : Text → Option Command
 command_named name = if bytes_eq name (codes "audit") then Some Audits
     else if bytes_eq name (codes "report") then Some Reports else if bytes_eq name (codes "explain") then Some Explains
     else if bytes_eq name (codes "show") then Some Shows else if bytes_eq name (codes "replay") then Some Replays else if bytes_eq name (codes "serve") then Some Serves
-    else if bytes_eq name (codes "proxy") then Some Proxies else if bytes_eq name (codes "convert") then Some Converts else None
+    else if bytes_eq name (codes "proxy") then Some Proxies else if bytes_eq name (codes "convert") then Some Converts
+    else if bytes_eq name (codes "split") then Some Splits else if bytes_eq name (codes "join") then Some Joins else None
 
 -- what they take
 abbrev pub entries_of : Command → List Entry
@@ -131,5 +141,7 @@ entries_of Explains = explained ∷ position ∷ (judging ++ explaining_form)
 entries_of Shows = audited ∷ span ∷ []
 entries_of Replays = audited ∷ []
 entries_of Converts = audited ∷ []
+entries_of Splits = explained ∷ parts ∷ folder ∷ []
+entries_of Joins = folder ∷ counting
 entries_of Serves = serving ++ caching
 entries_of Proxies = proxying ++ caching

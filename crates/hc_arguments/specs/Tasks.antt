@@ -9,17 +9,18 @@ use Rattle.hc_service.specs.declared.settings.CoreSettings.{CoreSettings}
 use Rattle.hc_service.specs.Settings.{AreGood}
 use Rattle.hc_shown.specs.declared.span.Span.{Span}
 use Rattle.hc_options.specs.declared.auditing.AuditTerms.{AuditTerms}
+use Rattle.hc_options.specs.declared.auditing.Minimums.{Minimums}
 use Rattle.hc_options.specs.declared.refusal.Refusal.{Refusal}
 use Rattle.hc_options.specs.declared.refusal.Refusal.TheVariants.{Memory, Missing, Value}
 use Rattle.hc_options.specs.declared.rows.Takes.TheVariants.{Number}
-use Rattle.hc_options.specs.Auditing.{AsksAudit, AsksAuditTerms}
+use Rattle.hc_options.specs.Auditing.{AsksAudit, AsksAuditTerms, AsksMinimums}
 use Rattle.hc_options.specs.Commands.{value_in}
 use Rattle.hc_options.specs.Refusals.{Refuses, refused_kind}
 use Rattle.hc_options.specs.Settings.{AsksSettings, plain}
 use Rattle.hc_options.specs.Values.{flag_by, number_by}
 use Rattle.hc_arguments.specs.declared.order.ExplainTerms.{ExplainTerms}
 use Rattle.hc_arguments.specs.declared.order.Order.{Order}
-use Rattle.hc_arguments.specs.declared.order.Order.TheVariants.{Audit, Report, Explain, Show, Replay, Convert, Serve, Proxy}
+use Rattle.hc_arguments.specs.declared.order.Order.TheVariants.{Audit, Report, Explain, Show, Replay, Convert, Split, Join, Serve, Proxy}
 use Rattle.hc_arguments.specs.declared.order.ProxyLimits.{ProxyLimits}
 use Rattle.hc_arguments.specs.declared.order.RecordTerms.{RecordTerms}
 use Rattle.hc_arguments.specs.declared.order.ReportTerms.{ReportTerms}
@@ -29,7 +30,7 @@ use Rattle.hc_arguments.specs.Limits.{AsksLimits, AsksTerms}
 use Rattle.hc_arguments.specs.Origins.{is_origin}
 use Rattle.hc_arguments.specs.Positions.{span_of}
 use Rattle.hc_arguments.specs.Tables.{Command, command_named, entries_of, taken_by}
-use Rattle.hc_arguments.specs.Tables.Command.{Audits, Reports, Explains, Shows, Replays, Converts, Serves, Proxies}
+use Rattle.hc_arguments.specs.Tables.Command.{Audits, Reports, Explains, Shows, Replays, Converts, Splits, Joins, Serves, Proxies}
 
 -- ---- what is asked
 
@@ -68,6 +69,10 @@ pub data Task : Type 0 where
   ToReplay : (file : Text) → Task
   -- to convert it
   ToConvert : (file : Text) → Task
+  -- to split it into so many parts in that folder
+  ToSplit : (file : Text) (parts : ℕ) (dir : Text) → Task
+  -- to join the verdicts on the parts in that folder, of which so many replies have to be judged
+  ToJoin : (dir : Text) (least : Minimums) → Task
   -- to serve so many connections there, before that origin, to record them to that file, from a cache of those settings
   ToServe : (listen origin : Text) (connections : ℕ) (file : Text) (settings : CoreSettings) → Task
   -- to serve all that connect there at once, before that origin, to record them to that file, if any, on those terms, to log replies to that one, if any, within those
@@ -81,6 +86,8 @@ command_of (ToExplain file terms) = Explains
 command_of (ToShow file span) = Shows
 command_of (ToReplay file) = Replays
 command_of (ToConvert file) = Converts
+command_of (ToSplit file parts dir) = Splits
+command_of (ToJoin dir least) = Joins
 command_of (ToServe listen origin connections file settings) = Serves
 command_of (ToProxy listen origin file log terms limits keeps_cookies settings) = Proxies
 
@@ -91,6 +98,8 @@ task_of (Explain file terms) = ToExplain file.now terms
 task_of (Show file span) = ToShow file.now span
 task_of (Replay file) = ToReplay file.now
 task_of (Convert file) = ToConvert file.now
+task_of (Split file parts dir) = ToSplit file.now parts dir.now
+task_of (Join dir least) = ToJoin dir.now least
 task_of (Serve s) = ToServe s.listen.now s.origin.now s.connections s.file.now s.settings
 task_of (Proxy p) = ToProxy p.listen.now p.origin.now (option_map (λ file. file.now) p.file) (option_map (λ file. file.now) p.log) p.terms p.limits p.keeps_cookies p.settings
 
@@ -116,6 +125,18 @@ pub record AsksExplain (value : Text → Option Text) (file : Text) (terms : Exp
 pub record AsksShow (value : Text → Option Text) (file : Text) (span : Span) : Type 0 where
   pub file_is : value (codes "FILE") ≡ Some file
   pub span_is : option_and_then span_of (value (codes "POSITION[-POSITION]")) ≡ Some span
+
+-- and that of `split`, which can't read standard input twice
+pub record AsksSplit (value : Text → Option Text) (file : Text) (parts : ℕ) (dir : Text) : Type 0 where
+  pub file_is : value (codes "FILE") ≡ Some file
+  pub file_has_name : bytes_eq file (codes "-") ≡ false
+  pub parts_are : number_by (Number 1 500) (value (codes "N")) ≡ Some (Some parts)
+  pub dir_is : value (codes "DIR") ≡ Some dir
+
+-- and that of `join`
+pub record AsksJoin (value : Text → Option Text) (dir : Text) (least : Minimums) : Type 0 where
+  pub dir_is : value (codes "DIR") ≡ Some dir
+  pub minimums_are : AsksMinimums value least
 
 -- and that of `serve`
 pub record AsksService (value : Text → Option Text) (listen origin : Text) (connections : ℕ) (file : Text) (settings : CoreSettings) : Type 0 where
@@ -145,6 +166,8 @@ ValuesAsk value (ToExplain file terms) = AsksExplain value file terms
 ValuesAsk value (ToShow file span) = AsksShow value file span
 ValuesAsk value (ToReplay file) = value (codes "FILE") ≡ Some file
 ValuesAsk value (ToConvert file) = value (codes "FILE") ≡ Some file
+ValuesAsk value (ToSplit file parts dir) = AsksSplit value file parts dir
+ValuesAsk value (ToJoin dir least) = AsksJoin value dir least
 ValuesAsk value (ToServe listen origin connections file settings) = AsksService value listen origin connections file settings
 ValuesAsk value (ToProxy listen origin file log terms limits keeps_cookies settings) = AsksProxy value listen origin file log terms limits keeps_cookies settings
 
@@ -164,9 +187,10 @@ AsksIn given = AsksBy (command_in given) (value_in given)
 abbrev pub Asks : List Text → Task → Type 0
 Asks words = AsksIn (subcommand_of hcache words)
 
--- what a task can be asked with: of those settings there are caches, and the last of these positions is one
+-- what a task can be asked with: of those settings there are caches, the last of these positions is one, and there are some parts
 abbrev pub CanBeDone : Task → Type 0
 CanBeDone (ToShow file span) = 0 < span.last
+CanBeDone (ToSplit file parts dir) = 0 < parts
 CanBeDone (ToServe listen origin connections file settings) = AreGood settings
 CanBeDone (ToProxy listen origin file log terms limits keeps_cookies settings) = AreGood settings
 CanBeDone task = ⊤

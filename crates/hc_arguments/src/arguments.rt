@@ -15,7 +15,7 @@ ghost use Rattle.hc_arguments.specs.Limits.{TakesNumbers, AsksLimits, AsksPatien
 ghost use Rattle.hc_arguments.specs.Origins.{is_origin};
 ghost use Rattle.hc_arguments.specs.Positions.{positive_of};
 ghost use Rattle.hc_arguments.specs.Tables.{Command, proxying, taken_by};
-ghost use Rattle.hc_arguments.specs.Tables.Command.{Audits, Converts, Explains, Proxies, Replays, Reports, Serves, Shows};
+ghost use Rattle.hc_arguments.specs.Tables.Command.{Audits, Converts, Explains, Joins, Proxies, Replays, Reports, Serves, Shows, Splits};
 ghost use Rattle.hc_arguments.specs.Tasks.{Asks, AsksBy, AsksIn, CanBeDone, IsRefused, IsRefusedIn, RefusesBy, RefusesIn, explaining, plain_form, proxy_words, service_words, task_of};
 ghost use Rattle.hc_arguments.specs.Tasks.Task.{ToAudit, ToConvert, ToExplain, ToProxy, ToReplay, ToReport, ToServe};
 
@@ -28,14 +28,14 @@ use crate::origins::is_origin;
 use crate::positions::span_of;
 use crate::rows::{
     ABANDONED, CLIENTS, CONNECT_TIMEOUT, CONNECTIONS, DRAIN_TIMEOUT, EXPLAINED, HELD, IDLE_TIMEOUT,
-    MAX_CONNECTIONS, ORIGIN, ORIGIN_CONNECTIONS, ORIGIN_TIMEOUT, ORIGIN_TOTAL, POSITION,
+    MAX_CONNECTIONS, ORIGIN, ORIGIN_CONNECTIONS, ORIGIN_TIMEOUT, ORIGIN_TOTAL, PARTS, POSITION,
     QUEUE_TIMEOUT, RECORD_LIMIT, REQUEST_TIMEOUT, SEND_TIMEOUT, SPAN,
 };
 use clap::error::ErrorKind;
 use clap::{ArgMatches, Error};
 use hc_options::{
-    Refusal, Row, audit_terms_in, flag_in, number_if_given, number_or, required, settings_in,
-    usage_error,
+    Refusal, Row, audit_terms_in, flag_in, minimums_in, number_if_given, number_or, required,
+    settings_in, usage_error,
 };
 use std::alloc::{AllocError, Global};
 use std::convert::AsStr;
@@ -153,6 +153,8 @@ fn order_in<'a>(alloc: Global, matches: &ArgMatches<'a>) -> Result<Order<'a>, Re
         "serve" => serve_in(alloc, found),
         "proxy" => proxy_in(alloc, found),
         "convert" => convert_in(found),
+        "split" => split_in(found),
+        "join" => join_in(found),
         _ => Err(Refusal::Missing),
     }
 }
@@ -233,6 +235,41 @@ fn convert_in<'a>(found: &ArgMatches<'a>) -> Result<Order<'a>, Refusal>
 {
     let file = required(found, "FILE")?;
     Ok(Order::Convert { file })
+}
+
+// What `split` asks.
+fn split_in<'a>(found: &ArgMatches<'a>) -> Result<Order<'a>, Refusal>
+    ensures ok { IfOk result (λ order. AsksBy (Some Splits) (first_value (found_of found.now)) (task_of order)) }
+    ensures err { IfErr result (RefusesBy (Some Splits) (first_value (found_of found.now))) }
+{
+    let file = required(found, "FILE")?;
+    if file == "-" {
+        return Err(Refusal::Value(&EXPLAINED));
+    }
+    let dir = required(found, "DIR")?;
+    let parts = parts_in(found)?;
+    Ok(Order::Split { file, parts, dir })
+}
+
+// How many parts there are to be, which has to be said.
+fn parts_in(found: &ArgMatches<'_>) -> Result<u64, Refusal>
+    ensures ok { IfOk result (λ number. number_by (Number 1 500) (first_value (found_of found.now) (codes "N")) ≡ Some (Some number)) }
+    ensures err { IfErr result (RefusesBy (Some Splits) (first_value (found_of found.now))) }
+{
+    match number_if_given(found, &PARTS)? {
+        Some(number) => Ok(number),
+        None => Err(Refusal::Missing),
+    }
+}
+
+// What `join` asks.
+fn join_in<'a>(found: &ArgMatches<'a>) -> Result<Order<'a>, Refusal>
+    ensures ok { IfOk result (λ order. AsksBy (Some Joins) (first_value (found_of found.now)) (task_of order)) }
+    ensures err { IfErr result (RefusesBy (Some Joins) (first_value (found_of found.now))) }
+{
+    let dir = required(found, "DIR")?;
+    let least = minimums_in(found)?;
+    Ok(Order::Join { dir, least })
 }
 
 // What `serve` asks.

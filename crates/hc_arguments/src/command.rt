@@ -1,11 +1,11 @@
 //! The command `hcache`, and its subcommands.
 
 ghost use Rattle.hc_options.specs.Commands.{IsMade};
-ghost use Rattle.hc_arguments.specs.Commands.{convert, explain, hcache, judges_alone, proxy, replay, report, serve, show};
+ghost use Rattle.hc_arguments.specs.Commands.{convert, explain, hcache, join, judges_alone, proxy, replay, report, serve, show, split};
 
 use crate::rows::{
-    CACHING, CONVERTED, EXPLAINING, EXPLAINING_FORM, PROXY_CACHING, PROXYING, REPLAYED, REPORTING,
-    SERVING, SHOWING,
+    CACHING, CONVERTED, EXPLAINING, EXPLAINING_FORM, JOINED, PROXY_CACHING, PROXYING, REPLAYED,
+    REPORTING, SERVING, SHOWING, SPLITTING,
 };
 use clap::Command;
 use hc_options::{
@@ -28,6 +28,13 @@ const REPLAY_ABOUT: &str =
 const CONVERT_ABOUT: &str =
     "Converts a transcript to the first format, which doesn't say for which exchange a forward was made: \
     standard output gets the same records without that";
+
+const SPLIT_ABOUT: &str =
+    "Splits a transcript into parts by target, each a transcript of its own, so that they can be audited side by side";
+
+const JOIN_ABOUT: &str =
+    "Joins the verdicts on all parts of a transcript: says what an audit of the whole says, by the options by which \
+    each part was audited, which have to be the same";
 
 const SERVE_ABOUT: &str =
     "Serves clients from a new cache before an origin, one connection after another, and records \
@@ -75,6 +82,21 @@ Exit status:
   3   not converted: standard error says `error: memory` or `error: device`
   64  the command line is wrong: standard error says how";
 
+const SPLIT_STATUSES: &str = "\
+Exit status:
+  0   the folder has part-001.hct and so on, a table beside each, and at last the file manifest
+  2   malformed: the transcript breaks at this position, by this fault
+  3   not split: standard error says `error: memory` or `error: device`; without a manifest the files are no split
+  64  the command line is wrong, the transcript is a pipe, or the folder isn't empty: standard error says how";
+
+const JOIN_STATUSES: &str = "\
+Exit status, by DIR/part-001.hct.verdict and so on, which have what `hcache audit` wrote for each part:
+  0   yes: every reply in the transcript is right, and the counts are those of all parts
+  1   no: the reply at this position of the transcript is wrong, by this reason
+  3   no verdict: there is none on a part, or the part is lacking or changed, as standard error says
+  4   too few: it is yes, but fewer replies were judged than is asked for, as standard error says
+  64  the command line is wrong, or the folder has no manifest of a split: standard error says how";
+
 const SERVE_STATUSES: &str = "\
 Exit status:
   0   all connections were served
@@ -96,7 +118,9 @@ pub(crate) fn command<'a>(alloc: Global) -> Result<Command<'a>, AllocError>
     let replaying = with_subcommand(showing, replay_command(alloc));
     let serving = with_subcommand(replaying, serve_command(alloc));
     let proxying = with_subcommand(serving, proxy_command(alloc));
-    with_subcommand(proxying, convert_command(alloc))
+    let converting = with_subcommand(proxying, convert_command(alloc));
+    let splitting = with_subcommand(converting, split_command(alloc));
+    with_subcommand(splitting, join_command(alloc))
 }
 
 // The whole command, of its subcommands with those alone that judge.
@@ -125,6 +149,8 @@ pub(crate) fn command_named<'a>(
         "serve" => serve_command(alloc),
         "proxy" => proxy_command(alloc),
         "convert" => convert_command(alloc),
+        "split" => split_command(alloc),
+        "join" => join_command(alloc),
         _ => command(alloc),
     }
 }
@@ -196,6 +222,23 @@ fn convert_command<'a>(alloc: Global) -> Result<Command<'a>, AllocError>
         CONVERT_STATUSES,
     );
     with_rows(alloc, bare, &[CONVERTED])
+}
+
+// The command `split`, without the one above it.
+fn split_command<'a>(alloc: Global) -> Result<Command<'a>, AllocError>
+    ensures { IsMade split result }
+{
+    let bare = begun(alloc, "split", "hcache split", SPLIT_ABOUT, SPLIT_STATUSES);
+    with_rows(alloc, bare, &SPLITTING)
+}
+
+// The command `join`, without the one above it.
+fn join_command<'a>(alloc: Global) -> Result<Command<'a>, AllocError>
+    ensures { IsMade join result }
+{
+    let bare = begun(alloc, "join", "hcache join", JOIN_ABOUT, JOIN_STATUSES);
+    let placed = with_rows(alloc, bare, &[JOINED]);
+    with_rows(alloc, placed, &COUNTING)
 }
 
 // The command `serve`, without the one above it.

@@ -1,7 +1,7 @@
 //! What the words ask.
 
 use hc_history::Settings;
-use hc_options::AuditTerms;
+use hc_options::{AuditTerms, Minimums};
 use hc_service::CoreSettings;
 use hc_shown::Span;
 
@@ -47,6 +47,22 @@ pub enum Order<'a> {
     Convert {
         /// Where it is: the name of a file.
         file: &'a str,
+    },
+    /// To split a transcript.
+    Split {
+        /// Where it is: the name of a file, which can be read twice, and so not `-`.
+        file: &'a str,
+        /// How many parts there are to be, from 1 to 500.
+        parts: u64,
+        /// The folder of the parts.
+        dir: &'a str,
+    },
+    /// To join the verdicts on the parts of a transcript.
+    Join {
+        /// The folder of the parts.
+        dir: &'a str,
+        /// How many replies of the transcript have to be judged.
+        least: Minimums,
     },
     /// To serve clients, one connection after another, and to record that.
     Serve(Serving<'a>),

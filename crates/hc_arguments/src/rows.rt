@@ -53,6 +53,38 @@ pub(crate) const CONVERTED: Row = Row {
     help: "The transcript, in the first or the second format",
 };
 
+/// How many parts a recording is split into.
+pub(crate) const PARTS: Row = Row {
+    name: "N",
+    kind: Kind::Argument,
+    value: "",
+    takes: Takes::Number(1, 500),
+    required: true,
+    help: "How many parts there are to be: a decimal from 1 to 500",
+};
+
+const PARTS_FOLDER: Row = Row {
+    name: "DIR",
+    kind: Kind::Argument,
+    value: "",
+    takes: Takes::AnyText,
+    required: true,
+    help: "The folder of the parts, which is made, or has no file yet",
+};
+
+/// The folder of the parts whose verdicts are joined.
+pub(crate) const JOINED: Row = Row {
+    name: "DIR",
+    kind: Kind::Argument,
+    value: "",
+    takes: Takes::AnyText,
+    required: true,
+    help: "The folder to which `hcache split` wrote the parts",
+};
+
+/// What is split, into how many parts, and where they go.
+pub(crate) const SPLITTING: [Row; 3] = [EXPLAINED, PARTS, PARTS_FOLDER];
+
 /// What is shown, and which records.
 pub(crate) const SHOWING: [Row; 2] = [AUDITED, SPAN];
 

@@ -17,7 +17,9 @@ const USAGE: &str =
     hcache replay <FILE>\n       \
     hcache serve [OPTIONS] --listen <HOST:PORT> --origin <HOST:PORT> --connections <N> --record <FILE>\n       \
     hcache proxy [OPTIONS] --listen <HOST:PORT> --origin <HOST:PORT>\n       \
-    hcache convert <FILE>\n";
+    hcache convert <FILE>\n       \
+    hcache split <FILE> <N> <DIR>\n       \
+    hcache join [OPTIONS] <DIR>\n";
 
 /// Shows an error of the parse: help and the version on `output`, and a mistake on `faults`. Returns the
 /// exit status.

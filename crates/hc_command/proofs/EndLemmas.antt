@@ -3,7 +3,7 @@ use Rattle.std.proofs.Common.{◌≡◌, ℕ, Bool, true, false, List, Option, S
 use Rattle.std.specs.Io.KnownBytes.{Keeps}
 use Rattle.hc_options.specs.declared.auditing.AuditTerms.{AuditTerms}
 use Rattle.hc_arguments.specs.Tasks.{Task}
-use Rattle.hc_arguments.specs.Tasks.Task.{ToAudit, ToReport, ToExplain, ToShow, ToReplay, ToConvert, ToServe, ToProxy}
+use Rattle.hc_arguments.specs.Tasks.Task.{ToAudit, ToReport, ToExplain, ToShow, ToReplay, ToConvert, ToSplit, ToJoin, ToServe, ToProxy}
 use Rattle.hc_auditing.specs.Ends.{EndsUnasked}
 use Rattle.hc_command.specs.Ends.{Does, Ends}
 use Rattle.hc_command.specs.Report.{ExplainedTwice}
@@ -33,6 +33,8 @@ fails_with_3 (ToExplain file terms) status old new faults_old faults_new is kept
 fails_with_3 (ToShow file span) status old new faults_old faults_new is kept = inl is
 fails_with_3 (ToReplay file) status old new faults_old faults_new is kept = inl is
 fails_with_3 (ToConvert file) status old new faults_old faults_new is kept = inl is
+fails_with_3 (ToSplit file parts dir) status old new faults_old faults_new is kept = inl is
+fails_with_3 (ToJoin dir least) status old new faults_old faults_new is kept = inl is
 fails_with_3 (ToServe listen origin connections file settings) status old new faults_old faults_new is kept = (kept, inl is)
 fails_with_3 (ToProxy listen origin file log terms limits keeps_cookies settings) status old new faults_old faults_new is kept = (kept, inl is)
 
@@ -45,6 +47,8 @@ does_ends (ToExplain file terms) status old new faults_old faults_new does = inr
 does_ends (ToShow file span) status old new faults_old faults_new does = inr (inr (inr (inl (span, does))))
 does_ends (ToReplay file) status old new faults_old faults_new does = inr (inr (inr (inr (inl does))))
 does_ends (ToConvert file) status old new faults_old faults_new does = inr (inr (inr (inr (inr (inl does)))))
+does_ends (ToSplit file parts dir) status old new faults_old faults_new does = inr (inr (inr (inr (inr (inr (inr (inr (inl does))))))))
+does_ends (ToJoin dir least) status old new faults_old faults_new does = inr (inr (inr (inr (inr (inr (inr (inr (inr (inl (least, does))))))))))
 does_ends (ToServe listen origin connections file settings) status old new faults_old faults_new does = inr (inr (inr (inr (inr (inr (inl does))))))
 does_ends (ToProxy listen origin file log terms limits keeps_cookies settings) status old new faults_old faults_new does = inr (inr (inr (inr (inr (inr (inr (inl does)))))))
 
@@ -52,5 +56,5 @@ does_ends (ToProxy listen origin file log terms limits keeps_cookies settings) s
 pub unasked_ends : (status : ℕ) (old new faults_old faults_new : Option (List ℕ)) → EndsUnasked status old new faults_old faults_new
     → Ends status old new faults_old faults_new
 unasked_ends status old new faults_old faults_new (inl failed) = inr (inr (inr (inr (inl (inl failed)))))
-unasked_ends status old new faults_old faults_new (inr (inl shown)) = inr (inr (inr (inr (inr (inr (inr (inr (inl shown))))))))
-unasked_ends status old new faults_old faults_new (inr (inr refused)) = inr (inr (inr (inr (inr (inr (inr (inr (inr refused))))))))
+unasked_ends status old new faults_old faults_new (inr (inl shown)) = inr (inr (inr (inr (inr (inr (inr (inr (inr (inr (inl shown))))))))))
+unasked_ends status old new faults_old faults_new (inr (inr refused)) = inr (inr (inr (inr (inr (inr (inr (inr (inr (inr (inr refused))))))))))

@@ -4,13 +4,14 @@ use Rattle.std.specs.Io.KnownBytes.{Keeps}
 use Rattle.hc_options.specs.declared.auditing.AuditTerms.{AuditTerms}
 use Rattle.hc_options.specs.declared.auditing.Minimums.{Minimums}
 use Rattle.hc_arguments.specs.Tasks.{Form, Task}
-use Rattle.hc_arguments.specs.Tasks.Task.{ToAudit, ToReport, ToExplain, ToShow, ToReplay, ToConvert, ToServe, ToProxy}
+use Rattle.hc_arguments.specs.Tasks.Task.{ToAudit, ToReport, ToExplain, ToShow, ToReplay, ToConvert, ToSplit, ToJoin, ToServe, ToProxy}
 use Rattle.hc_auditing.specs.Audit.{Answers}
 use Rattle.hc_command.specs.Convert.{Converted}
 use Rattle.hc_command.specs.Replay.{Played}
 use Rattle.hc_command.specs.Report.{Explained}
 use Rattle.hc_command.specs.Reporting.{ReportedOn}
 use Rattle.hc_command.specs.Show.{ShownFor}
+use Rattle.hc_parting.specs.Ends.{EndsJoin, EndsSplit}
 use Rattle.hc_shown.specs.declared.span.Span.{Span}
 use Rattle.hc_notices.specs.Notices.{SaysSome}
 
@@ -30,6 +31,8 @@ Does (ToExplain file terms) status old new faults_old faults_new = Explained ter
 Does (ToShow file span) status old new faults_old faults_new = ShownFor span status old new faults_old faults_new
 Does (ToReplay file) status old new faults_old faults_new = Played status old new faults_old faults_new
 Does (ToConvert file) status old new faults_old faults_new = Converted status old new faults_old faults_new
+Does (ToSplit file parts dir) status old new faults_old faults_new = EndsSplit status old new
+Does (ToJoin dir least) status old new faults_old faults_new = EndsJoin least status old new
 Does (ToServe listen origin connections file settings) status old new faults_old faults_new = Served status old new faults_old faults_new
 Does (ToProxy listen origin file log terms limits keeps_cookies settings) status old new faults_old faults_new = Proxied status old new faults_old faults_new
 
@@ -40,4 +43,5 @@ Ends status old new faults_old faults_new = ((least : Minimums) × Answers least
     ⊎ ((json : Bool) × (position : Option ℕ) × Explained json position status old new faults_old faults_new)
     ⊎ ((span : Span) × ShownFor span status old new faults_old faults_new)
     ⊎ Played status old new faults_old faults_new ⊎ Converted status old new faults_old faults_new ⊎ Served status old new faults_old faults_new
-    ⊎ Proxied status old new faults_old faults_new ⊎ ((status ≡ 0) × Keeps faults_old faults_new) ⊎ ((status ≡ 64) × Keeps old new)
+    ⊎ Proxied status old new faults_old faults_new ⊎ EndsSplit status old new ⊎ ((least : Minimums) × EndsJoin least status old new)
+    ⊎ ((status ≡ 0) × Keeps faults_old faults_new) ⊎ ((status ≡ 64) × Keeps old new)

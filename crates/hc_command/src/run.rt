@@ -31,6 +31,7 @@ use hc_auditing::{
 };
 use hc_figures::Baseline;
 use hc_history::Settings;
+use hc_parting::{SplitOrder, join, split};
 use hc_shown::Span;
 use std::alloc::Global;
 use std::convert::AsStr;
@@ -147,6 +148,10 @@ where
         Order::Show { file, span } => records_shown(rt, file, span, output, faults),
         Order::Replay { file } => replayed(rt, file, output, faults),
         Order::Convert { file } => converted(rt, file, output, faults),
+        Order::Split { file, parts, dir } => {
+            split(rt, SplitOrder { file, parts, dir }, output, faults)
+        }
+        Order::Join { dir, least } => join(rt, dir, least, output, faults),
         Order::Serve(serving) => server.serve(serving, faults),
         Order::Proxy(proxying) => server.proxy(proxying, faults),
     }

@@ -138,7 +138,7 @@ module _ (taken : Takes → Text → Bool) (judges : Judges taken) where
     ),
   )
 
-  minimums_fine : (value : Text → Option Text) (minimums : Minimums) → AsksMinimums value minimums → AreFine taken value counting
+  pub minimums_fine : (value : Text → Option Text) (minimums : Minimums) → AsksMinimums value minimums → AreFine taken value counting
   minimums_fine value minimums a =
       (counted (value (codes "min-hits")) _ a.hits_are, (counted (value (codes "min-judged")) _ a.judged_are, tt))
 

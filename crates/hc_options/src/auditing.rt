@@ -126,8 +126,8 @@ pub fn audit_terms_in(alloc: Global, found: &ArgMatches<'_>) -> Result<AuditTerm
     Ok(AuditTerms { settings, minimums })
 }
 
-// How many replies a command that judges all has to judge.
-fn minimums_in(found: &ArgMatches<'_>) -> Result<Minimums, Refusal>
+/// How many replies a command that judges all has to judge.
+pub fn minimums_in(found: &ArgMatches<'_>) -> Result<Minimums, Refusal>
     ensures ok { IfOk result (AsksMinimums (first_value (found_of found.now))) }
     ensures err { IfErr result (Refuses is_taken counting (first_value (found_of found.now))) }
 {

@@ -12,7 +12,7 @@ use std::alloc::{AllocError, Global};
 
 const ABOUT: &str =
     "Audits the transcripts of a cache, groups and explains their wrong replies, shows records, plays scripts \
-    to a cache that records one, serves clients from one, also many at once, and converts transcripts";
+    to a cache that records one, serves clients from one, also many at once, and converts and splits transcripts";
 
 const AUDIT_ABOUT: &str = "Says whether every reply in a transcript is right, in one line";
 

@@ -12,7 +12,9 @@ mod settings;
 mod tables;
 mod values;
 
-pub use auditing::{AuditOrder, AuditTerms, Minimums, audit_asked, audit_terms_in, not_text};
+pub use auditing::{
+    AuditOrder, AuditTerms, Minimums, audit_asked, audit_terms_in, minimums_in, not_text,
+};
 pub use commands::{audit_command, begun, program, with_rows, with_subcommand};
 pub use finding::{flag_in, number_if_given, number_or, required};
 pub use refusal::{Refusal, usage_error};

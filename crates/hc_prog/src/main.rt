@@ -1,4 +1,4 @@
-//! `hcache`: a program that audits, reports on, explains and converts transcripts of caches, and has a cache of its own,
+//! `hcache`: a program that audits, reports on, explains, converts and splits transcripts of caches, and has a cache of its own,
 //! to which it plays scripts of events and from which it serves clients, one after another or many at once.
 //!
 //! `hcache audit FILE` reads a transcript, says on standard output whether every reply in it is right, and ends with
@@ -14,6 +14,9 @@
 //!
 //! `hcache convert FILE` writes the records of a transcript in the first format to standard output and ends with 0, or
 //! says on standard error where the transcript is malformed and ends with 2, or with 3 where it couldn't convert.
+//!
+//! `hcache split FILE N DIR` splits a transcript into parts by target, and `hcache join DIR` says what the verdicts on them
+//! tell of the whole, by the line and the status of an audit.
 //!
 //! `hcache serve --listen A --origin B --connections N --record FILE` serves so many connections of clients, one after
 //! another, records both sides to the file, and prints nothing. It ends with 0, or with 3 where it couldn't go on.

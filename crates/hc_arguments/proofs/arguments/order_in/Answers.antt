@@ -1,6 +1,6 @@
 use Rattle.std.proofs.Common.{rules}
 use Rattle.clap.specs.Words.{found_of}
-use Rattle.hc_arguments.specs.Tables.Command.{Audits, Reports, Explains, Shows, Replays, Serves, Proxies, Converts}
+use Rattle.hc_arguments.specs.Tables.Command.{Audits, Reports, Explains, Shows, Replays, Serves, Proxies, Converts, Splits, Joins}
 use Rattle.hc_arguments.proofs.ArgumentLemmas.{asks_in, refuses_in}
 use Rattle.hc_arguments.proofs.arguments.order_in.Goals as goal
 
@@ -83,3 +83,23 @@ pub returns-in-convert-clause-err : goal.returns-in-convert-clause-err
 returns-in-convert-clause-err c =
     refuses_in c.args.matches.now c.in-Some.name.now (found_of c.in-Some.found.now) c.in-Some.ensures.name c.in-Some.ensures.rows Converts (search rules)
     c.convert_in.result c.convert_in.ensures.err
+
+pub returns-in-split-clause-ok : goal.returns-in-split-clause-ok
+returns-in-split-clause-ok c =
+    asks_in c.args.matches.now c.in-Some.name.now (found_of c.in-Some.found.now) c.in-Some.ensures.name c.in-Some.ensures.rows Splits (search rules)
+    c.split_in.result c.split_in.ensures.ok
+
+pub returns-in-split-clause-err : goal.returns-in-split-clause-err
+returns-in-split-clause-err c =
+    refuses_in c.args.matches.now c.in-Some.name.now (found_of c.in-Some.found.now) c.in-Some.ensures.name c.in-Some.ensures.rows Splits (search rules)
+    c.split_in.result c.split_in.ensures.err
+
+pub returns-in-join-clause-ok : goal.returns-in-join-clause-ok
+returns-in-join-clause-ok c =
+    asks_in c.args.matches.now c.in-Some.name.now (found_of c.in-Some.found.now) c.in-Some.ensures.name c.in-Some.ensures.rows Joins (search rules)
+    c.join_in.result c.join_in.ensures.ok
+
+pub returns-in-join-clause-err : goal.returns-in-join-clause-err
+returns-in-join-clause-err c =
+    refuses_in c.args.matches.now c.in-Some.name.now (found_of c.in-Some.found.now) c.in-Some.ensures.name c.in-Some.ensures.rows Joins (search rules)
+    c.join_in.result c.join_in.ensures.err

@@ -1,0 +1,4 @@
+pub mod TextLemmas
+pub mod JoinedLemmas
+pub mod SplitLemmas
+pub mod TableLemmas

@@ -1,0 +1,8 @@
+pub mod Openings
+pub mod Texts
+pub mod Parting
+pub mod Routing
+pub mod Outlets
+pub mod Splitting
+pub mod Joined
+pub mod Tables
