@@ -144,6 +144,8 @@ impl<'a, E: Write, L: Target> Herald<'a, E, L> {
 }
 
 impl<'a, E: Write, L: Target> Herald<'a, E, L> {
+    ghost use Rattle.std.specs.Prelude.{◌≡◌};
+
     /// Has the replies logged that were written, and those to clients for whom there was no room.
     fn look_at_replies<W: World>(&mut self, crowd: &Crowd<W>)
     where
