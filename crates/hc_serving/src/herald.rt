@@ -145,6 +145,7 @@ impl<'a, E: Write, L: Target> Herald<'a, E, L> {
 
 impl<'a, E: Write, L: Target> Herald<'a, E, L> {
     ghost use Rattle.std.specs.Prelude.{◌≡◌};
+    ghost use Rattle.hc_notices.specs.Voices.{GoesOn};
 
     /// Has the replies logged that were written, and those to clients for whom there was no room.
     fn look_at_replies<W: World>(&mut self, crowd: &Crowd<W>)
@@ -165,7 +166,7 @@ impl<'a, E: Write, L: Target> Herald<'a, E, L> {
 
     /// Nothing more happens: what of the log waits is written.
     pub(crate) fn finish_log(&mut self, tick: u64)
-        ensures { self.new.voice ≡ self.old.voice }
+        ensures { GoesOn E.contents self.old.voice self.new.voice }
     {
         self.log.finish(tick);
     }
