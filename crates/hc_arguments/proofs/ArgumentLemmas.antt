@@ -159,7 +159,7 @@ task_from Joins value = option_map (λ p. ToJoin p.0 p.1) (both (value (codes "D
 task_from Serves value = option_map (λ p. ToServe p.0.0 p.0.1 p.1.0.0 p.1.0.1 p.1.1)
     (both (both (value (codes "listen")) (value (codes "origin")))
     (both (both (option_and_then (λ o. o) (number_by (Number 1 greatest_number) (value (codes "connections")))) (value (codes "record"))) (cache_from keys_served value)))
-task_from Proxies value = option_map (λ p. ToProxy p.0.0 p.0.1 (value (codes "record")) p.1.0 p.1.1.0 (flag_by (value (codes "store-set-cookie"))) p.1.1.1)
+task_from Proxies value = option_map (λ p. ToProxy p.0.0 p.0.1 (value (codes "record")) (value (codes "access-log")) p.1.0 p.1.1.0 (flag_by (value (codes "store-set-cookie"))) p.1.1.1)
     (both (both (value (codes "listen")) (value (codes "origin"))) (both (terms_from value) (both (limits_from value) (cache_from keys_proxied value))))
 
 abbrev task_by : Option Command → (Text → Option Text) → Option Task
@@ -1000,6 +1000,10 @@ module _ (name listen origin : Text) where
     clients_are = refl;
   }
 
+  no_log : value_in (subcommand_of hcache (name ∷ proxy_words listen origin)) (codes "access-log") ≡ None
+  unfolding clap_on_literals
+  no_log = refl
+
   no_cookies : flag_by (value_in (subcommand_of hcache (name ∷ proxy_words listen origin)) (codes "store-set-cookie")) ≡ false
   unfolding clap_on_literals
   no_cookies = refl
@@ -1017,7 +1021,7 @@ module _ (name listen origin : Text) where
   no_proxy_fault = refl
 
 pub words_of_proxy : (name listen origin : Text) → is_origin origin ≡ true
-    → AreWordsFor (name ∷ proxy_words listen origin) (ToProxy listen origin None plain_terms plain_limits false (plain_cache keys_proxied))
+    → AreWordsFor (name ∷ proxy_words listen origin) (ToProxy listen origin None None plain_terms plain_limits false (plain_cache keys_proxied))
 words_of_proxy name listen origin one = record {
   asks = (
     is_proxy name listen origin,
@@ -1026,6 +1030,7 @@ words_of_proxy name listen origin one = record {
       origin_is = proxy_forwards name listen origin;
       origin_is_one = one;
       file_is = no_record name listen origin;
+      log_is = no_log name listen origin;
       terms_are = no_terms name listen origin;
       limits_are = no_limits name listen origin;
       cookies_are = no_cookies name listen origin;

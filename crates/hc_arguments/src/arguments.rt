@@ -90,7 +90,7 @@ pub fn parsed<'a, S: AsStr>(alloc: Global, words: &'a [S]) -> Result<Order<'a>, 
         (λ error. kind_of error ≡ ErrorKind.OutOfMemory) }
     // And `proxy` those of the two that it needs, no file, and the plain terms, limits and cache.
     ensures proxy { (name listen origin : Text) → is_origin origin ≡ true → map S.text words.entry.now ≡ name ∷ proxy_words listen origin
-        → MatchResult result (λ order. task_of order ≡ ToProxy listen origin None plain_terms plain_limits false (plain_cache keys_proxied))
+        → MatchResult result (λ order. task_of order ≡ ToProxy listen origin None None plain_terms plain_limits false (plain_cache keys_proxied))
         (λ error. kind_of error ≡ ErrorKind.OutOfMemory) }
 
     // Other words give what they say, where the command line has no fault and the values are in their ranges.
