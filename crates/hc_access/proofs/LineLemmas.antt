@@ -1,5 +1,5 @@
 -- Values are printable and have no double quote, and lines have ten.
-use Rattle.std.proofs.Common.{◌≡◌, ◌<◌, ◌≤◌, ◌+◌, ◌%◌, ◌/◌, ◌==◌, ◌^◌, ◌&&◌, not, ℕ, Bool, true, false, nat_le, List, [], ◌∷◌, ◌++◌, get_or, suc, zero, refl, arith, rules, sym, ap, ◌∙◌, if◌then◌else◌}
+use Rattle.std.proofs.Common.{◌≡◌, ◌<◌, ◌≤◌, ◌+◌, ◌%◌, ◌/◌, ◌==◌, ◌^◌, ◌&&◌, not, ℕ, Bool, true, false, nat_le, List, [], ◌∷◌, ◌++◌, get_or, length, suc, zero, refl, arith, rules, sym, ap, ◌∙◌, if◌then◌else◌}
 use Rattle.std.proofs.lemmas.Bool.{cond_both, le-leb, leb-true, and_from, and_parts}
 use Rattle.std.proofs.lemmas.Fmt.{decimal_by_steps}
 use Rattle.std.proofs.lemmas.List.Concat.{flat_map-cons}
@@ -65,6 +65,17 @@ quoted_has_two value = both (34 ∷ []) (value_text value ++ 34 ∷ []) 1 1 (rec
 pub two_quoted_have_four : (one other : List ℕ) → HasQuotes 4 (quoted one ++ (codes " " ++ quoted other))
 two_quoted_have_four one other = both (quoted one) (codes " " ++ quoted other) 2 2 (quoted_has_two one)
     (both (codes " ") (quoted other) 0 2 (record { printable = refl; quotes = refl }) (quoted_has_two other))
+
+-- plain octets stand for themselves
+pub plain_is_itself : (octets : List ℕ) → list_all is_plain octets ≡ true → flat_map octet_text octets ≡ octets
+plain_is_itself [] plain = refl
+plain_is_itself (octet ∷ octets) plain =
+    let parts = and_parts (is_plain octet) (list_all is_plain octets) plain in
+    rw (flat_map-cons octet_text octet octets, plain_is_itself octets parts.1, parts.0) refl
+
+pub plain_value : (value : List ℕ) → list_all is_plain value ≡ true → (length value == 0) ≡ false → value_text value ≡ value
+plain_value [] plain some = let nothing : true ≡ false = some in cc
+plain_value (octet ∷ octets) plain some = plain_is_itself (octet ∷ octets) plain
 
 -- ---- numbers
 

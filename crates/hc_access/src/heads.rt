@@ -35,6 +35,34 @@ pub(crate) fn head_len(text: &[u8]) -> usize {
     text.len().saturating_sub(rest.len()).saturating_add(2)
 }
 
+/// What a request tells of where it comes from.
+#[derive(Clone, Copy)]
+pub(crate) struct Sender<'a> {
+    pub(crate) referer: &'a [u8],
+    pub(crate) agent: &'a [u8],
+}
+
+/// The values of the last Referer and of the last User-Agent in a head; empty where there is none.
+pub(crate) fn sender_in(head: &[u8]) -> Sender<'_> {
+    let mut sender = Sender {
+        referer: b"",
+        agent: b"",
+    };
+    let mut rest = head;
+    'lines: for _ in 0..MOST_LINES {
+        let Some((line, behind)) = next_line(rest) else {
+            return sender;
+        };
+        if let Some(agent) = value_in(line, b"user-agent") {
+            sender.agent = agent;
+        } else if let Some(referer) = value_in(line, b"referer") {
+            sender.referer = referer;
+        }
+        rest = behind;
+    }
+    sender
+}
+
 /// The value of the last line of that name in a head, which is written in small letters; empty where there is none.
 pub(crate) fn value_of<'a>(head: &'a [u8], name: &[u8]) -> &'a [u8] {
     let mut value: &[u8] = b"";

@@ -1,7 +1,7 @@
 //! Values, whatever they have, as printable ASCII without a double quote.
 
 ghost use Rattle.std.specs.Prelude.{◌≡◌, ◌++◌, OnOk};
-ghost use Rattle.std.specs.List.{flat_map};
+ghost use Rattle.std.specs.List.{flat_map, list_all};
 ghost use Rattle.hc_access.specs.Values.{hexadecimal, is_plain, octet_text, quoted, value_text};
 
 use std::alloc::AllocError;
@@ -61,7 +61,22 @@ pub(crate) fn push_value(value: &[u8], out: &mut Vec<u8>) -> Result<(), AllocErr
         out.push(b'-')?;
         return Ok(());
     }
+    if are_plain(value) {
+        return out.extend_from_slice(value);
+    }
     push_octets(value, out)
+}
+
+/// Whether each octet stands for itself.
+fn are_plain(octets: &[u8]) -> bool
+    ensures { result ≡ list_all is_plain octets.now }
+{
+    for octet in octets {
+        if !is_plain(*octet) {
+            return false;
+        }
+    }
+    true
 }
 
 /// Puts a value at the end in double quotes, so that it ends where it ends, whatever it has.

@@ -5,7 +5,7 @@ ghost use Rattle.hc_access.specs.Accounts.{Accounts, DraftsOne, replies_in, repl
 
 use crate::asked::Asked;
 use crate::drafts::Draft;
-use crate::heads::{first_line, head_len, value_of};
+use crate::heads::{first_line, head_len, sender_in, value_of};
 use crate::line::{Replied, front_of, push_time};
 use crate::lines::Lines;
 use crate::visits::{Answered, Visited, Visits};
@@ -290,12 +290,8 @@ impl Replies {
 fn asked_of(alloc: Global, message: &MessageText) -> Result<Asked, AllocError> {
     let (front, _) = message.parts();
     let head = front.as_slice();
-    Asked::new(
-        alloc,
-        first_line(head),
-        value_of(head, b"referer"),
-        value_of(head, b"user-agent"),
-    )
+    let sender = sender_in(head);
+    Asked::new(alloc, first_line(head), sender.referer, sender.agent)
 }
 
 /// What a reply tells, and why.
