@@ -103,9 +103,8 @@ link_text position = codes "<a href=#p" ++ (decimal position ++ (codes ">" ++ (d
 
 -- ---- a document
 
--- a piece of one: what it begins with, elements that begin and end, places and what leads there, and texts
+-- a piece of one: elements that begin and end, places and what leads there, and texts
 pub data Piece : Type 0 where
-  Front : Piece
   Begins : (tag : Tag) (class : Class) → Piece
   Ends : (tag : Tag) → Piece
   Place : (position : ℕ) → Piece
@@ -113,7 +112,6 @@ pub data Piece : Type 0 where
   Words : (words : List ℕ) → Piece
 
 abbrev pub piece_text : Piece → List ℕ
-piece_text Front = FRONT.now
 piece_text (Begins tag class) = begin_text tag class
 piece_text (Ends tag) = end_text tag
 piece_text (Place position) = place_text position
@@ -126,5 +124,15 @@ pieces_text pieces = flat_map piece_text pieces
 -- the text is that of pieces: so what is text in it is no markup
 abbrev pub IsMarked : List ℕ → Type 0
 IsMarked text = (pieces : List Piece) × (text ≡ pieces_text pieces)
+
+-- what a document begins with, and a line as its first paragraph
+abbrev pub heading_text : List ℕ → List ℕ
+heading_text line = FRONT.now ++ (begin_text tag.P class.Line ++ (escaped line ++ end_text tag.P))
+
+-- a document that says that line first
+pub record IsDocument (line text : List ℕ) : Type 0 where
+  pub rest : List ℕ
+  pub is : text ≡ heading_text line ++ rest
+  pub marked : ∥ IsMarked rest ∥₁
 '''
 open("specs/Marked.antt","w").write(s)

@@ -1,8 +1,7 @@
 //! The writer of a document.
 
 ghost use Rattle.std.specs.Prelude.{◌≡◌, ◌++◌, IfOk, OnOk, false, string_bytes};
-ghost use Rattle.hc_html.specs.declared.front.TheConstants.{FRONT};
-ghost use Rattle.hc_html.specs.Marked.{IsMarked, begin_text, end_text, escaped, escaped_octet, link_text, place_text};
+ghost use Rattle.hc_html.specs.Marked.{IsDocument, IsMarked, begin_text, end_text, escaped, escaped_octet, heading_text, link_text, place_text};
 
 use crate::front::FRONT;
 use crate::tags::{Class, Tag};
@@ -35,13 +34,6 @@ impl Html {
             alloc,
             text: String::new(alloc),
             is_refused: false,
-        }
-    }
-
-    /// Begins the document: what it looks like, and that nothing is loaded with it and nothing runs in it.
-    pub fn front(&mut self) {
-        if push_front(&mut self.text).is_err() {
-            self.is_refused = true;
         }
     }
 
@@ -100,28 +92,33 @@ impl Html {
         self.end(tag);
     }
 
-    /// The whole.
-    pub fn into_text(self) -> Result<String, AllocError>
-        ensures { IfOk result (λ text. ∥ IsMarked (string_bytes text) ∥₁) }
+    /// The whole, behind what a document begins with, and that line.
+    pub fn into_document(self, line: &str) -> Result<String, AllocError>
+        ensures { IfOk result (λ text. IsDocument line.now (string_bytes text)) }
     {
         let Html {
-            alloc: _,
+            alloc,
             text,
             is_refused,
         } = self;
         if is_refused {
-            Err(AllocError)
-        } else {
-            Ok(text)
+            return Err(AllocError);
         }
+        let mut whole = String::new(alloc);
+        push_heading(line, &mut whole)?;
+        whole.push_str(text.as_str())?;
+        Ok(whole)
     }
 }
 
-// Puts what a document begins with at the end.
-fn push_front(out: &mut String) -> Result<(), AllocError>
-    ensures { OnOk result (string_bytes out.new ≡ string_bytes out.old ++ FRONT.now) }
+// Puts what a document begins with at the end, and that line.
+fn push_heading(line: &str, out: &mut String) -> Result<(), AllocError>
+    ensures { OnOk result (string_bytes out.new ≡ string_bytes out.old ++ heading_text line.now) }
 {
-    out.push_str(FRONT)
+    out.push_str(FRONT)?;
+    push_begin(Tag::P, Class::Line, out)?;
+    push_escaped(line, out)?;
+    push_end(Tag::P, out)
 }
 
 // Puts the tag at the end with which an element begins.

@@ -15,6 +15,31 @@ pub struct Demand {
     pub words: &'static str,
 }
 
+/// How strongly a thing is asked.
+#[derive(Clone, Copy, PartialEq, Eq)]
+pub enum Strength {
+    /// By a MUST of an RFC.
+    Must,
+    /// By what an RFC says a thing means.
+    Stated,
+    /// By a SHOULD.
+    Should,
+    /// By a stricter rule of this auditor's own.
+    Own,
+}
+
+// Whether a word stands in a text.
+fn has_word(text: &str, word: &[u8]) -> bool {
+    let mut rest = text.as_bytes();
+    while let Some((_, behind)) = rest.split_first() {
+        if rest.starts_with(word) {
+            return true;
+        }
+        rest = behind;
+    }
+    false
+}
+
 /// What is stored answers GET or HEAD alone.
 pub const STORED_ANSWER: Demand = Demand {
     sections: "RFC 9111 section 4",
@@ -47,6 +72,24 @@ impl Demand {
         ensures { result.sections.now ≡ sections.now }
     {
         Demand { sections, words }
+    }
+
+    /// Whether it is the same.
+    pub fn is(&self, other: &Demand) -> bool {
+        self.sections == other.sections && self.words == other.words
+    }
+
+    /// How strongly it is asked, as its sentence and its sections say.
+    pub fn strength(&self) -> Strength {
+        if has_word(self.sections, b"no RFC") {
+            Strength::Own
+        } else if has_word(self.words, b"MUST") {
+            Strength::Must
+        } else if has_word(self.words, b"SHOULD") {
+            Strength::Should
+        } else {
+            Strength::Stated
+        }
     }
 
     /// What is asked of a reply that is wrong for that reason, where no stored response is named that falls short. What went

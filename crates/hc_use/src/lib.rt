@@ -13,7 +13,7 @@ mod storing;
 mod usage;
 
 pub use aging::{AgeGap, AgeOrigin, Aged, TtlGap, age_gap, ttl_gap};
-pub use demand::{Demand, NO_HIT, STORED_ANSWER, UNRECORDED};
+pub use demand::{Demand, NO_HIT, STORED_ANSWER, Strength, UNRECORDED};
 pub use laws::{least_setting_permits, named_permit_permits, no_setting_permits};
 pub use newest::{NAMED, Newest};
 pub use permits::{StaleUse, stale_use};

@@ -41,7 +41,7 @@ impl Drop for FoundReply {
 
 impl FoundReply {
     /// That reply. None where no exchange of its number is open.
-    pub(crate) fn read<I: Index>(
+    pub fn read<I: Index>(
         alloc: Global,
         judged: &JudgedReply<'_, I>,
     ) -> Result<Option<Self>, AllocError>
