@@ -17,14 +17,16 @@ ghost use Rattle.hc_command.specs.Report.{Explained, ExplainedTwice};
 ghost use Rattle.hc_command.specs.Reporting.{ReportedAlone, ReportedBy, ReportedIn, ReportedOn};
 
 use crate::baseline::{BaselineTrouble, baseline_of};
+use crate::documenting::report_in_html;
 use crate::converting::convert;
 use crate::explaining::explain;
 use crate::replaying::replay;
 use crate::reporting::{Beside, ReportForm, report};
 use crate::serving::Server;
 use crate::showing::show;
+use clap::Error;
 use hc_arguments::{
-    AuditTerms, ExplainTerms, Order, ReportTerms, not_text, parsed, without_baseline,
+    AuditTerms, ExplainTerms, Order, ReportTerms, beside_html, not_text, parsed, without_baseline,
 };
 use hc_auditing::{
     Trouble, audited, input_name, input_of, opened, printed, shown, unread, words_of,
@@ -32,7 +34,7 @@ use hc_auditing::{
 use hc_figures::Baseline;
 use hc_history::Settings;
 use hc_shown::Span;
-use std::alloc::Global;
+use std::alloc::{AllocError, Global};
 use std::convert::AsStr;
 use std::io::Write;
 use std::rt::{Env, Files};
@@ -172,7 +174,11 @@ where
         strict,
         annotates,
         junit,
+        html,
     } = form;
+    if html {
+        return report_in_html_asked(rt, file, terms, form, output, faults);
+    }
     let Some(name) = baseline else {
         return report_alone(rt, file, terms, form, output, faults);
     };
@@ -191,6 +197,47 @@ where
     }
 }
 
+// Reports on the file in HTML, if that alone is asked, and it can be read twice.
+fn report_in_html_asked<R, W: Write, E: Write>(
+    rt: &R,
+    file: &str,
+    terms: AuditTerms,
+    form: ReportTerms<'_>,
+    output: &mut W,
+    faults: &mut E,
+) -> u8
+where
+    R: Files + AllocGlobal,
+{
+    let has_other = form.json || form.annotates || form.strict;
+    if has_other || form.baseline.is_some() || form.junit.is_some() {
+        return refused(beside_html(rt.alloc()), output, faults);
+    }
+    match reads_twice(rt, file) {
+        Ok(true) => reported_twice(rt, file, terms, output, faults),
+        Ok(false) => not_twice(faults),
+        Err(error) => Trouble::Device(error).told(file, faults),
+    }
+}
+
+fn reported_twice<R, W: Write, E: Write>(
+    rt: &R,
+    file: &str,
+    terms: AuditTerms,
+    output: &mut W,
+    faults: &mut E,
+) -> u8
+where
+    R: Files + AllocGlobal,
+{
+    match (opened(rt, file), opened(rt, file)) {
+        (Ok(mut input), Ok(mut again)) => {
+            report_in_html(rt.alloc(), terms, file, &mut input, &mut again, output, faults)
+        }
+        (Err(error), _) | (_, Err(error)) => Trouble::Device(error).told(file, faults),
+    }
+}
+
 // Reports on the file as is asked, where no baseline is named.
 fn report_alone<R, W: Write, E: Write>(
     rt: &R,
@@ -206,7 +253,7 @@ where
         (E.contents faults.old) (E.contents faults.new) }
 {
     if form.strict {
-        return refused(rt.alloc(), output, faults);
+        return refused(without_baseline(rt.alloc()), output, faults);
     }
     let files = ReportFiles {
         input: file,
@@ -221,12 +268,16 @@ where
     reported(rt, files, terms, form, output, faults)
 }
 
-// Says that a baseline has to be named.
-fn refused<W: Write, E: Write>(alloc: Global, output: &mut W, faults: &mut E) -> u8
+// Says why the words are refused.
+fn refused<W: Write, E: Write>(
+    why: Result<Error, AllocError>,
+    output: &mut W,
+    faults: &mut E,
+) -> u8
     ensures status { (result ≡ 64) ⊎ (result ≡ 3) }
     ensures quiet { Keeps (W.contents output.old) (W.contents output.new) }
 {
-    match without_baseline(alloc) {
+    match why {
         Ok(error) => shown(&error, output, faults),
         Err(error) => Trouble::from(error).told("", faults),
     }

@@ -1,12 +1,12 @@
 -- A piece more makes a document of a document, and no escaped text has markup.
-use Rattle.std.proofs.Common.{◌≡◌, ◌∙◌, ◌==◌, ◌&&◌, ◌++◌, ℕ, Bool, true, false, List, [], ◌∷◌, ap, refl, sym, append-nil, nat_le}
+use Rattle.std.proofs.Common.{◌≡◌, ◌∙◌, ◌==◌, ◌++◌, ℕ, Bool, true, false, List, [], ◌∷◌, ap, refl, sym, append-nil}
 use Rattle.std.proofs.Math.Logic.{∥∥₁_map}
 use Rattle.std.proofs.lemmas.Bool.{and_from, cond_both}
 use Rattle.std.proofs.lemmas.Grind.{flat_map-append, merely}
 use Rattle.std.proofs.lemmas.List.Folds.{list_all-append}
-use Rattle.std.specs.List.{flat_map, list_all}
+use Rattle.std.specs.List.{list_all}
 use Rattle.std.specs.Prelude.{Result, Ok, Err, OnOk, is_err}
-use Rattle.hc_html.specs.Marked.{IsMarked, Piece, escaped, escaped_octet, is_plain, piece_text, pieces_text}
+use Rattle.hc_html.specs.Marked.{IsMarked, Piece, escaped, escaped_octet, is_plain, is_written, piece_text, pieces_text}
 
 -- ---- pieces
 
@@ -35,7 +35,7 @@ plain_octet octet = cond_both (octet == 38) _ _ (λ t. list_all is_plain t ≡ t
     cond_both (octet == 62) _ _ (λ t. list_all is_plain t ≡ true) (λ _. refl) (λ more.
     cond_both (octet == 34) _ _ (λ t. list_all is_plain t ≡ true) (λ _. refl) (λ double.
     cond_both (octet == 39) _ _ (λ t. list_all is_plain t ≡ true) (λ _. refl) (λ single.
-    cond_both (nat_le 32 octet && nat_le octet 126) _ _ (λ t. list_all is_plain t ≡ true) (λ printable. rw printable (rw less (rw more (rw double (rw single refl))))) (λ _. refl))))))
+    cond_both (is_written octet) _ _ (λ t. list_all is_plain t ≡ true) (λ printable. rw printable (rw less (rw more (rw double (rw single refl))))) (λ _. refl))))))
 
 pub plain_text : (octets : List ℕ) → list_all is_plain (escaped octets) ≡ true
 plain_text [] = refl

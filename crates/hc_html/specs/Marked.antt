@@ -9,19 +9,23 @@ use Rattle.hc_html.specs.declared.tags.Tag.TheVariants as tag
 
 -- ---- texts
 
--- what stands for an octet of a text: for what could be markup, or end a value in quotes, an entity; for what isn't printable ASCII the character for those that aren't known;
--- any other stands for itself
+-- printable ASCII, or a line feed
+abbrev pub is_written : ℕ → Bool
+is_written octet = octet == 10 || (nat_le 32 octet && nat_le octet 126)
+
+-- what stands for an octet of a text: for what could be markup, or end a value in quotes, an entity; for what is neither printable ASCII nor a line feed the character for those
+-- that aren't known; any other stands for itself
 abbrev pub escaped_octet : ℕ → List ℕ
 escaped_octet octet =
     if octet == 38 then codes "&amp;" else if octet == 60 then codes "&lt;" else if octet == 62 then codes "&gt;" else if octet == 34 then codes "&quot;"
-    else if octet == 39 then codes "&#39;" else if nat_le 32 octet && nat_le octet 126 then octet ∷ [] else codes "&#65533;"
+    else if octet == 39 then codes "&#39;" else if is_written octet then octet ∷ [] else codes "&#65533;"
 
 abbrev pub escaped : List ℕ → List ℕ
 escaped octets = flat_map escaped_octet octets
 
--- an octet that is printable ASCII, and neither begins nor ends a tag or a value in quotes
+-- an octet that is so, and neither begins nor ends a tag or a value in quotes
 abbrev pub is_plain : ℕ → Bool
-is_plain octet = nat_le 32 octet && nat_le octet 126 && not (octet == 60 || octet == 62 || octet == 34 || octet == 39)
+is_plain octet = is_written octet && not (octet == 60 || octet == 62 || octet == 34 || octet == 39)
 
 -- ---- elements
 

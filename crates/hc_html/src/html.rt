@@ -169,7 +169,7 @@ fn push_octet(octet: u8, out: &mut String) -> Result<(), AllocError>
         b'>' => out.push_str("&gt;"),
         b'"' => out.push_str("&quot;"),
         b'\'' => out.push_str("&#39;"),
-        32..=126 => out.push(char::from(octet)),
+        10 | 32..=126 => out.push(char::from(octet)),
         _ => out.push_str("&#65533;"),
     }
 }

@@ -9,7 +9,7 @@ use hc_figures::{NO_MARK, ReplyCounts};
 use hc_history::{Counts, Ending, FieldNames, Settings, UnmarkedReplies};
 use hc_html::{Class, Html, Tag};
 use hc_shown::{Page, Teller};
-use hc_use::{Demand, Strength};
+use hc_use::Demand;
 use std::alloc::{AllocError, Global};
 
 /// Of how many wrong replies a document tells more, if there are so many.
@@ -195,17 +195,19 @@ fn write_counts(replies: &ReplyCounts, wrong: u64, html: &mut Html) {
         ("replies", replies.all()),
         ("hits", replies.hits),
         ("forwarded", replies.forwarded),
-        ("of these collapsed", replies.collapsed),
+        ("collapsed", replies.collapsed),
         ("unmarked", replies.unmarked),
-        ("with both marks", replies.both),
+        ("both marks", replies.both),
         ("not judged", replies.unjudged),
         ("wrong", wrong),
         ("octets of hits", replies.hit_octets),
-        ("octets of forwarded replies", replies.forwarded_octets),
+        ("octets forwarded", replies.forwarded_octets),
     ];
     html.begin(Tag::Dl, Class::Counts);
     for (name, number) in figures {
-        write_figure(name, number, html);
+        if number != 0 {
+            write_figure(name, number, html);
+        }
     }
     html.end(Tag::Dl);
     if replies.has_no_mark() {
@@ -318,7 +320,7 @@ pub fn write_settings(alloc: Global, settings: &Settings, html: &mut Html) {
     let normalized = "that the cache doesn't heed Vary for these fields";
     write_names(alloc, "--normalized ", &settings.allowed.normalized, normalized, html);
     html.begin(Tag::Div, Class::Plain);
-    html.leaf(Tag::Dt, Class::Plain, "else");
+    html.leaf(Tag::Dt, Class::Plain, "otherwise");
     let strict = "the strict rules of hcache, which are narrower than the RFCs in places";
     html.leaf(Tag::Dd, Class::Plain, strict);
     html.end(Tag::Div);
@@ -364,6 +366,48 @@ fn write_names(alloc: Global, option: &str, names: &FieldNames, hides: &str, htm
     write_hidden(hides, html);
 }
 
+/// How strongly a thing is asked.
+#[derive(Clone, Copy, PartialEq, Eq)]
+enum Strength {
+    /// By a MUST of an RFC.
+    Must,
+    /// By what an RFC says a thing means.
+    Stated,
+    /// By a SHOULD.
+    Should,
+    /// By a stricter rule of this auditor's own.
+    Own,
+}
+
+// Whether a word stands in a text.
+fn has_word(text: &str, word: &[u8]) -> bool {
+    let mut rest = text.as_bytes();
+    while let Some((_, behind)) = rest.split_first() {
+        if rest.starts_with(word) {
+            return true;
+        }
+        rest = behind;
+    }
+    false
+}
+
+// How strongly a thing is asked, as its sentence and its sections say.
+fn strength_of(demand: &Demand) -> Strength {
+    if has_word(demand.sections, b"no RFC") {
+        Strength::Own
+    } else if has_word(demand.words, b"MUST") {
+        Strength::Must
+    } else if has_word(demand.words, b"SHOULD") {
+        Strength::Should
+    } else {
+        Strength::Stated
+    }
+}
+
+fn is_same(one: &Demand, other: &Demand) -> bool {
+    one.sections == other.sections && one.words == other.words
+}
+
 /// The gravest first.
 const STRENGTHS: [Strength; 4] = [
     Strength::Must,
@@ -406,7 +450,7 @@ fn demands_of(
 
 fn is_known(demands: &[Demand], demand: &Demand) -> bool {
     for known in demands {
-        if known.is(demand) {
+        if is_same(known, demand) {
             return true;
         }
     }
@@ -416,7 +460,7 @@ fn is_known(demands: &[Demand], demand: &Demand) -> bool {
 // Writes what is asked so strongly, each thing once.
 fn write_strength(alloc: Global, groups: &[Group], demands: &[Demand], strength: Strength, html: &mut Html) {
     for (place, demand) in demands.iter().enumerate() {
-        if demand.strength() == strength && !is_known(&demands[..place], demand) {
+        if strength_of(demand) == strength && !is_known(&demands[..place], demand) {
             write_demand(*demand, html);
             write_asked(alloc, groups, demands, demand, html);
         }
@@ -424,7 +468,7 @@ fn write_strength(alloc: Global, groups: &[Group], demands: &[Demand], strength:
 }
 
 fn write_demand(demand: Demand, html: &mut Html) {
-    let (word, class) = strength_named(demand.strength());
+    let (word, class) = strength_named(strength_of(&demand));
     html.leaf(Tag::H3, Class::Asked, demand.words);
     html.begin(Tag::P, Class::Plain);
     html.leaf(Tag::Span, class, word);
@@ -437,7 +481,7 @@ fn write_demand(demand: Demand, html: &mut Html) {
 fn write_asked(alloc: Global, groups: &[Group], demands: &[Demand], demand: &Demand, html: &mut Html) {
     html.begin(Tag::Ul, Class::Groups);
     for (group, known) in groups.iter().zip(demands.iter()) {
-        if known.is(demand) {
+        if is_same(known, demand) {
             write_group(alloc, group, html);
         }
     }

@@ -144,8 +144,8 @@ fn write_line(alloc: Global, line: TimeLine, explained: &[Explaining], html: &mu
     write_places(&line, explained, html);
     html.end(Tag::Span);
     html.end(Tag::Summary);
-    write_explained(&line, explained, html);
     line.write(html);
+    write_explained(&target, explained, html);
     html.end(Tag::Details);
 }
 
