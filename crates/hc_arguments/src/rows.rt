@@ -111,14 +111,7 @@ const HTML: Row = Row {
 };
 
 /// In which form it reports, and what isn't held against a recording.
-pub(crate) const REPORTING: [Row; 6] = [
-    JSON,
-    BASELINE,
-    BASELINE_STRICT,
-    JUNIT,
-    ANNOTATIONS,
-    HTML,
-];
+pub(crate) const REPORTING: [Row; 6] = [JSON, BASELINE, BASELINE_STRICT, JUNIT, ANNOTATIONS, HTML];
 
 const LISTEN: Row = Row {
     name: "listen",

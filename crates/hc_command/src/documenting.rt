@@ -1,4 +1,7 @@
 //! The document on one transcript, which is read twice: from two readers to HTML on a writer and an exit status.
+ghost use Rattle.std.specs.Prelude.{IfOk, string_bytes};
+ghost use Rattle.hc_html.specs.Marked.{IsDocument};
+ghost use Rattle.hc_command.specs.Documents.{DocumentsBy, SaysDocument};
 
 use crate::surveying::{Outcome, Reading, surveyed};
 use hc_arguments::AuditTerms;
@@ -38,7 +41,10 @@ pub fn report_in_html<R: Read, S: Read, W: Write, E: Write>(
     again: &mut S,
     output: &mut W,
     faults: &mut E,
-) -> u8 {
+) -> u8
+    ensures { DocumentsBy terms.settings terms.minimums (R.remaining input.old) result
+        (W.contents output.old) (W.contents output.new) (E.contents faults.old) (E.contents faults.new) }
+{
     let AuditTerms { settings, minimums } = terms;
     match documented(alloc, &settings, name, input, again, output) {
         Ok(verdict) => ended(alloc, minimums, &verdict, faults),
@@ -54,11 +60,21 @@ fn documented<R: Read, S: Read, W: Write>(
     input: &mut R,
     again: &mut S,
     output: &mut W,
-) -> Result<Verdict, Trouble> {
+) -> Result<Verdict, Trouble>
+    ensures { IfOk result (λ verdict. SaysDocument settings.now verdict (R.remaining input.old) (W.contents output.old) (W.contents output.new)) }
+{
     let mut naming = NamingReport::new(alloc, settings.copy(alloc)?)?;
     let outcome = surveyed(alloc, settings.copy(alloc)?, input, &mut naming)?;
     let verdict = outcome.verdict(naming.first_wrong());
-    let text = document_of(alloc, settings, name, naming, &outcome, &verdict, again)?;
+    let line = verdict_line(alloc, &verdict)?;
+    let subject = Subject {
+        name,
+        line: line.as_str(),
+        settings,
+        ending: outcome.ending(),
+        counts: outcome.counts(),
+    };
+    let text = document_of(alloc, &subject, naming, again)?;
     match printed(text.as_str(), output) {
         Ok(()) => Ok(verdict),
         Err(error) => Err(Trouble::Output(error)),
@@ -68,23 +84,16 @@ fn documented<R: Read, S: Read, W: Write>(
 // The document on what was found, when the transcript is read again.
 fn document_of<S: Read>(
     alloc: Global,
-    settings: &Settings,
-    name: &str,
+    subject: &Subject<'_>,
     naming: NamingReport,
-    outcome: &Outcome,
-    verdict: &Verdict,
     again: &mut S,
-) -> Result<String, Trouble> {
-    let line = verdict_line(alloc, verdict)?;
+) -> Result<String, Trouble>
+    ensures { IfOk result (λ text. IsDocument subject.now.line.now (string_bytes text)) }
+{
+    let settings = subject.settings;
     let (report, named) = naming.into_parts();
-    let mut retelling = Retelling::new(alloc, &report, named)?;
+    let lent = settings.allowed.default_lifetime;
+    let mut retelling = Retelling::new(alloc, &report, named, lent)?;
     surveyed(alloc, settings.copy(alloc)?, again, &mut retelling)?;
-    let subject = Subject {
-        name,
-        line: line.as_str(),
-        settings,
-        ending: outcome.ending(),
-        counts: outcome.counts(),
-    };
-    Ok(document(alloc, &subject, &report, retelling)?)
+    Ok(document(alloc, subject, &report, retelling)?)
 }

@@ -92,6 +92,13 @@ impl Html {
         self.end(tag);
     }
 
+    /// The same of a text that was made, if it could be.
+    pub fn leaf_made(&mut self, tag: Tag, class: Class, made: Result<String, AllocError>) {
+        self.begin(tag, class);
+        self.made(made);
+        self.end(tag);
+    }
+
     /// The whole, behind what a document begins with, and that line.
     pub fn into_document(self, line: &str) -> Result<String, AllocError>
         ensures { IfOk result (λ text. IsDocument line.now (string_bytes text)) }

@@ -81,19 +81,11 @@ impl Report {
     }
 
     /// Writes the heading: how many of the replies are wrong. Then of which recording, which ends so, and what was counted.
-    pub fn write_front(
-        &self,
-        name: &str,
-        ending: Ending,
-        counts: Option<Counts>,
-        html: &mut Html,
-    ) {
+    pub fn write_front(&self, name: &str, ending: Ending, counts: Option<Counts>, html: &mut Html) {
         html.begin(Tag::Header, Class::Plain);
         write_heading(self, ending, html);
         html.begin(Tag::P, Class::Note);
-        html.begin(Tag::Code, Class::Plain);
-        html.made(shown(self.alloc, name.as_bytes()));
-        html.end(Tag::Code);
+        html.leaf_made(Tag::Code, Class::Plain, shown(self.alloc, name.as_bytes()));
         write_ending(ending, counts, html);
         if let Some(first) = self.wrongs.first {
             html.words(". The first wrong reply: ");
@@ -101,7 +93,7 @@ impl Report {
         }
         html.end(Tag::P);
         html.end(Tag::Header);
-        write_counts(&self.replies, self.wrongs.count, html);
+        write_counts(self.alloc, &self.replies, self.wrongs.count, html);
     }
 
     /// Writes what is wrong, by what is asked, as far as that is known; and what could be let pass so that less is.
@@ -112,7 +104,8 @@ impl Report {
         let groups = self.groups();
         let demands = demands_of(self.alloc, groups, asked)?;
         html.leaf(Tag::H2, Class::Plain, "What is wrong");
-        let order = "Each group of replies stands under what the first of them doesn't keep. MUST comes first, then what RFCs say \
+        let order =
+            "Each group of replies stands under what the first of them doesn't keep. MUST comes first, then what RFCs say \
             otherwise, SHOULD, and rules of hcache that are stricter than the RFCs.";
         html.leaf(Tag::P, Class::Note, order);
         for strength in STRENGTHS {
@@ -120,7 +113,7 @@ impl Report {
         }
         self.write_rest(html);
         let helpful = self.found.tries.helpful(self.wrongs.count)?;
-        write_tries(self.wrongs.count, helpful.as_slice(), html);
+        write_tries(self.alloc, self.wrongs.count, helpful.as_slice(), html);
         write_suspects(self.alloc, self.found.suspects.kept.as_slice(), html);
         Ok(())
     }
@@ -135,7 +128,8 @@ impl Report {
         }
         if warm != 0 {
             html.begin(Tag::P, Class::Note);
-            let of = " wrong replies are of targets of which nothing is recorded: was the cache empty when the recording began?";
+            let of =
+                " wrong replies are of targets of which nothing is recorded: was the cache empty when the recording began?";
             html.count(warm, of);
             html.end(Tag::P);
         }
@@ -181,16 +175,22 @@ fn write_ending(ending: Ending, counts: Option<Counts>, html: &mut Html) {
     }
 }
 
-fn write_figure(name: &str, number: u64, html: &mut Html) {
+// Writes a name and what there is under it.
+fn write_entry(name: Page, value: Page, html: &mut Html) {
     html.begin(Tag::Div, Class::Plain);
-    html.leaf(Tag::Dt, Class::Plain, name);
-    html.begin(Tag::Dd, Class::Plain);
-    html.count(number, "");
-    html.end(Tag::Dd);
+    html.leaf_made(Tag::Dt, Class::Plain, name.into_text());
+    html.leaf_made(Tag::Dd, Class::Plain, value.into_text());
     html.end(Tag::Div);
 }
 
-fn write_counts(replies: &ReplyCounts, wrong: u64, html: &mut Html) {
+fn write_figure(alloc: Global, figure: &str, number: u64, html: &mut Html) {
+    let (mut name, mut value) = (Page::new(alloc), Page::new(alloc));
+    name.words(figure);
+    value.count("", number, "");
+    write_entry(name, value, html);
+}
+
+fn write_counts(alloc: Global, replies: &ReplyCounts, wrong: u64, html: &mut Html) {
     let figures = [
         ("replies", replies.all()),
         ("hits", replies.hits),
@@ -204,9 +204,9 @@ fn write_counts(replies: &ReplyCounts, wrong: u64, html: &mut Html) {
         ("octets forwarded", replies.forwarded_octets),
     ];
     html.begin(Tag::Dl, Class::Counts);
-    for (name, number) in figures {
+    for (figure, number) in figures {
         if number != 0 {
-            write_figure(name, number, html);
+            write_figure(alloc, figure, number, html);
         }
     }
     html.end(Tag::Dl);
@@ -215,137 +215,124 @@ fn write_counts(replies: &ReplyCounts, wrong: u64, html: &mut Html) {
     }
 }
 
-// A setting: its option, whether it is given, by how many seconds, and what it hides.
-#[derive(Clone, Copy)]
-struct Given {
-    option: &'static str,
-    is_given: bool,
-    seconds: Option<u64>,
-    hides: &'static str,
-}
+// A setting: its option, by how many seconds it is given, if it is, and what it hides.
+type Given = (&'static str, Option<u64>, &'static str);
 
-fn flag(option: &'static str, is_given: bool, hides: &'static str) -> Given {
-    Given {
-        option,
-        is_given,
-        seconds: None,
-        hides,
+fn number_of(given: u32) -> Option<u64> {
+    if given == 0 {
+        None
+    } else {
+        Some(u64::from(given))
     }
 }
 
-fn number(option: &'static str, given: u32, hides: &'static str) -> Given {
-    Given {
-        option,
-        is_given: given != 0,
-        seconds: Some(u64::from(given)),
-        hides,
-    }
+fn seconds_of(given: Option<u32>) -> Option<u64> {
+    Some(u64::from(given?))
 }
 
-fn some(option: &'static str, given: Option<u32>, hides: &'static str) -> Given {
-    Given {
-        option,
-        is_given: given.is_some(),
-        seconds: Some(u64::from(given.unwrap_or(0))),
-        hides,
-    }
-}
-
-fn given_by(settings: &Settings) -> [Given; 8] {
+// Those that are numbers.
+fn numbers_in(settings: &Settings) -> [Given; 4] {
     let allowed = &settings.allowed;
-    let errors_only = settings.unmarked == UnmarkedReplies::ErrorsOnly;
     [
-        number(
-            "--slack",
-            settings.slack,
+        (
+            "--slack ",
+            number_of(settings.slack),
             "ages, lifetimes, what permits staleness and the seconds of a hit that are off by as much",
         ),
-        flag(
-            "--allow added-fields",
-            allowed.added_fields,
-            "fields that are added, and one that Connection names and the cache keeps",
-        ),
-        flag(
-            "--allow joined-lines",
-            allowed.joined_lines,
-            "nothing: RFC 9110 section 5.3 permits it",
-        ),
-        flag(
-            "--allow ranges",
-            allowed.ranges,
-            "that a part is another than the one that is asked for",
-        ),
-        some(
-            "--default-ttl",
-            allowed.default_lifetime,
+        (
+            "--default-ttl ",
+            seconds_of(allowed.default_lifetime),
             "that what states no lifetime lives longer than a heuristic makes sensible",
         ),
-        some(
-            "--grace",
-            allowed.grace,
-            "that what is stale by as much is served where the configuration doesn't mean it",
+        (
+            "--grace ",
+            seconds_of(allowed.grace),
+            "that what is stale by as much is given where the configuration doesn't mean it",
         ),
-        number(
-            "--age-slack",
-            allowed.age_slack,
+        (
+            "--age-slack ",
+            number_of(allowed.age_slack),
             "an Age that is wrong by as much",
         ),
-        if errors_only {
-            flag(
-                "--errors-only",
-                true,
-                "nothing: replies of status under 400 have to have a mark",
-            )
-        } else {
-            flag(
-                "--infer-marks",
-                allowed.inferred_marks,
-                "that a reply doesn't say what it is",
-            )
-        },
     ]
+}
+
+// Those that are given or not.
+fn flags_in(settings: &Settings) -> [(bool, &'static str, &'static str); 5] {
+    let allowed = &settings.allowed;
+    [
+        (
+            allowed.added_fields,
+            "--allow added-fields",
+            "fields that are added, and one that Connection names and the cache keeps",
+        ),
+        (
+            allowed.joined_lines,
+            "--allow joined-lines",
+            "nothing: RFC 9110 section 5.3 permits it",
+        ),
+        (
+            allowed.ranges,
+            "--allow ranges",
+            "that a part is another than the one that is asked for",
+        ),
+        (
+            allowed.inferred_marks,
+            "--infer-marks",
+            "that a reply doesn't say what it is",
+        ),
+        (
+            settings.unmarked == UnmarkedReplies::ErrorsOnly,
+            "--errors-only",
+            "nothing: replies of status under 400 have to have a mark",
+        ),
+    ]
+}
+
+// What a setting hides.
+fn hidden(alloc: Global, hides: &str) -> Page {
+    let mut page = Page::new(alloc);
+    page.words("hides ");
+    page.words(hides);
+    page
 }
 
 /// Writes the settings by which an audit judges, and what each hides.
 pub fn write_settings(alloc: Global, settings: &Settings, html: &mut Html) {
     html.leaf(Tag::H2, Class::Plain, "Judged by");
     html.begin(Tag::Dl, Class::Settings);
-    for given in given_by(settings) {
-        if given.is_given {
-            write_given(given, html);
+    for (option, seconds, hides) in numbers_in(settings) {
+        if let Some(seconds) = seconds {
+            let mut page = Page::new(alloc);
+            page.count(option, seconds, "");
+            write_entry(page, hidden(alloc, hides), html);
         }
     }
+    write_flags(alloc, settings, html);
     let ignored = "that these fields are added, changed or dropped";
     write_names(alloc, "--ignore ", &settings.ignored, ignored, html);
     let normalized = "that the cache doesn't heed Vary for these fields";
-    write_names(alloc, "--normalized ", &settings.allowed.normalized, normalized, html);
-    html.begin(Tag::Div, Class::Plain);
-    html.leaf(Tag::Dt, Class::Plain, "otherwise");
-    let strict = "the strict rules of hcache, which are narrower than the RFCs in places";
-    html.leaf(Tag::Dd, Class::Plain, strict);
-    html.end(Tag::Div);
+    write_names(
+        alloc,
+        "--normalized ",
+        &settings.allowed.normalized,
+        normalized,
+        html,
+    );
     html.end(Tag::Dl);
+    let strict =
+        "What none of these lets pass is judged by the strict rules of hcache, which are narrower than the RFCs in places.";
+    html.leaf(Tag::P, Class::Note, strict);
 }
 
-fn write_given(given: Given, html: &mut Html) {
-    html.begin(Tag::Div, Class::Plain);
-    html.begin(Tag::Dt, Class::Plain);
-    html.words(given.option);
-    if let Some(seconds) = given.seconds {
-        html.words(" ");
-        html.count(seconds, "");
+fn write_flags(alloc: Global, settings: &Settings, html: &mut Html) {
+    for (is_given, option, hides) in flags_in(settings) {
+        if is_given {
+            let mut page = Page::new(alloc);
+            page.words(option);
+            write_entry(page, hidden(alloc, hides), html);
+        }
     }
-    html.end(Tag::Dt);
-    write_hidden(given.hides, html);
-}
-
-// Ends a setting by what it hides.
-fn write_hidden(hides: &str, html: &mut Html) {
-    html.begin(Tag::Dd, Class::Plain);
-    html.words("hides ");
-    html.words(hides);
-    html.end(Tag::Dd);
-    html.end(Tag::Div);
 }
 
 fn write_names(alloc: Global, option: &str, names: &FieldNames, hides: &str, html: &mut Html) {
@@ -356,14 +343,9 @@ fn write_names(alloc: Global, option: &str, names: &FieldNames, hides: &str, htm
         page.said_octets("", name.as_slice(), "");
         is_first = false;
     }
-    if is_first {
-        return;
+    if !is_first {
+        write_entry(page, hidden(alloc, hides), html);
     }
-    html.begin(Tag::Div, Class::Plain);
-    html.begin(Tag::Dt, Class::Plain);
-    html.made(page.into_text());
-    html.end(Tag::Dt);
-    write_hidden(hides, html);
 }
 
 /// How strongly a thing is asked.
@@ -458,7 +440,13 @@ fn is_known(demands: &[Demand], demand: &Demand) -> bool {
 }
 
 // Writes what is asked so strongly, each thing once.
-fn write_strength(alloc: Global, groups: &[Group], demands: &[Demand], strength: Strength, html: &mut Html) {
+fn write_strength(
+    alloc: Global,
+    groups: &[Group],
+    demands: &[Demand],
+    strength: Strength,
+    html: &mut Html,
+) {
     for (place, demand) in demands.iter().enumerate() {
         if strength_of(demand) == strength && !is_known(&demands[..place], demand) {
             write_demand(*demand, html);
@@ -478,7 +466,13 @@ fn write_demand(demand: Demand, html: &mut Html) {
 }
 
 // Writes the groups of which the first doesn't keep that.
-fn write_asked(alloc: Global, groups: &[Group], demands: &[Demand], demand: &Demand, html: &mut Html) {
+fn write_asked(
+    alloc: Global,
+    groups: &[Group],
+    demands: &[Demand],
+    demand: &Demand,
+    html: &mut Html,
+) {
     html.begin(Tag::Ul, Class::Groups);
     for (group, known) in groups.iter().zip(demands.iter()) {
         if is_same(known, demand) {
@@ -490,40 +484,42 @@ fn write_asked(alloc: Global, groups: &[Group], demands: &[Demand], demand: &Dem
 
 fn write_group(alloc: Global, group: &Group, html: &mut Html) {
     html.begin(Tag::Li, Class::Plain);
-    html.begin(Tag::Span, Class::Count);
-    html.count(group.count, "");
-    html.end(Tag::Span);
+    let mut page = Page::new(alloc);
+    page.count("", group.count, "");
+    html.leaf_made(Tag::Span, Class::Count, page.into_text());
     html.begin(Tag::Span, Class::Plain);
-    html.count(u64::from(group.reason.number()), " ");
-    html.words(group.reason.name());
-    html.words(": ");
     let mut page = Page::new(alloc);
+    page.count("", u64::from(group.reason.number()), " ");
+    page.words(group.reason.name());
+    page.words(": ");
     group.say_what(&mut page);
+    page.words("; the first ");
     html.made(page.into_text());
-    html.words("; the first ");
     html.link(group.first);
-    html.words(", of ");
     let mut page = Page::new(alloc);
+    page.words(", of ");
     say_targets(&group.targets, &mut page);
     html.made(page.into_text());
     html.end(Tag::Span);
     html.end(Tag::Li);
 }
 
-fn write_tries(wrong: u64, helpful: &[Helpful], html: &mut Html) {
+fn write_tries(alloc: Global, wrong: u64, helpful: &[Helpful], html: &mut Html) {
     if helpful.is_empty() {
         return;
     }
     html.leaf(Tag::H2, Class::Plain, "To try, judged again");
     html.begin(Tag::Dl, Class::Settings);
     for one in helpful {
-        html.begin(Tag::Div, Class::Plain);
-        html.leaf(Tag::Dt, Class::Plain, one.options.as_str());
-        html.begin(Tag::Dd, Class::Plain);
-        html.count(wrong, if one.is_exact { " to " } else { " to at most " });
-        html.count(one.wrong, " wrong replies");
-        html.end(Tag::Dd);
-        html.end(Tag::Div);
+        let (mut name, mut value) = (Page::new(alloc), Page::new(alloc));
+        name.words(one.options.as_str());
+        value.count(
+            "",
+            wrong,
+            if one.is_exact { " to " } else { " to at most " },
+        );
+        value.count("", one.wrong, " wrong replies");
+        write_entry(name, value, html);
     }
     html.end(Tag::Dl);
 }
@@ -535,16 +531,11 @@ fn write_suspects(alloc: Global, suspects: &[Suspect], html: &mut Html) {
     html.leaf(Tag::H2, Class::Plain, "Suspected faults");
     html.begin(Tag::Dl, Class::Settings);
     for suspect in suspects {
-        html.begin(Tag::Div, Class::Plain);
-        html.begin(Tag::Dt, Class::Plain);
-        html.words(suspect.change.word());
-        html.words(" ");
-        html.made(shown(alloc, suspect.name.as_slice()));
-        html.end(Tag::Dt);
-        html.begin(Tag::Dd, Class::Plain);
-        html.count(suspect.count, " wrong replies");
-        html.end(Tag::Dd);
-        html.end(Tag::Div);
+        let (mut name, mut value) = (Page::new(alloc), Page::new(alloc));
+        name.words(suspect.change.word());
+        name.said_octets(" ", suspect.name.as_slice(), "");
+        value.count("in ", suspect.count, " wrong replies");
+        write_entry(name, value, html);
     }
     html.end(Tag::Dl);
 }

@@ -59,7 +59,10 @@ fn group_json(alloc: Global, group: &Group) -> Result<Value, AllocError>
     put_spread(group.spread, &mut object);
     object.number("count", group.count);
     object.number("first", group.first);
-    object.put("targets", targets_json(alloc, group.targets.kept.as_slice()));
+    object.put(
+        "targets",
+        targets_json(alloc, group.targets.kept.as_slice()),
+    );
     object.number("unnamed_targets", group.targets.more);
     object.into_value()
 }

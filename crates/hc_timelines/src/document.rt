@@ -5,7 +5,7 @@ ghost use Rattle.hc_html.specs.Marked.{IsDocument};
 
 use crate::retelling::Retelling;
 use hc_history::{Counts, Ending, Settings};
-use hc_html::{Html, Tag, Class};
+use hc_html::{Class, Html, Tag};
 use hc_report::{Report, write_settings};
 use std::alloc::{AllocError, Global};
 
@@ -41,5 +41,6 @@ pub fn document(
     report.write_groups(asked.as_slice(), &mut html)?;
     retelling.write(report.wrong(), &mut html);
     html.end(Tag::Main);
+    html.words("\n");
     html.into_document(subject.line)
 }

@@ -4,11 +4,13 @@
 
 mod changes;
 mod document;
+mod laws;
 mod naming;
 mod retelling;
 mod rows;
 mod time_line;
 
 pub use document::{Subject, document};
+pub use laws::stale_from_is_when;
 pub use naming::NamingReport;
 pub use retelling::Retelling;

@@ -9,7 +9,7 @@ use hc_audit::{JudgedReply, PassedRecord, Witness};
 use hc_history::{Finding, Settings, WrongReply};
 use hc_index::Index;
 use hc_report::Report;
-use hc_why::FoundReply;
+use hc_why::{FoundReply, ReplyAt};
 use std::alloc::{AllocError, Global};
 
 /// A report that keeps of which wrong replies more may be told.
@@ -75,7 +75,9 @@ impl NamingReport {
         if !self.report.names(judged.position) {
             return Ok(());
         }
-        if let Some(found) = FoundReply::read(self.alloc, judged)? {
+        let mut seeker = ReplyAt::new(self.alloc, judged.position);
+        seeker.see(judged)?;
+        if let Some(found) = seeker.into_found() {
             self.named.push(found)?;
         }
         Ok(())

@@ -3,7 +3,7 @@
 use crate::time_line::TimeLine;
 use hc_audit::{JudgedReply, PassedRecord, Witness};
 use hc_explain::{Explaining, Form};
-use hc_head::same_target;
+use hc_head::{Target, same_target};
 use hc_history::Finding;
 use hc_html::{Class, Html, Tag};
 use hc_index::Index;
@@ -16,6 +16,8 @@ use std::alloc::{AllocError, Global};
 #[derive(Drop)]
 pub struct Retelling {
     alloc: Global,
+    // The lifetime that is lent to what states none, if one is.
+    lent: Option<u32>,
     pub(crate) explained: Vec<Explaining>,
     pub(crate) lines: Vec<TimeLine>,
 }
@@ -48,9 +50,15 @@ impl<I: Index> Witness<I> for Retelling {
 
 impl Retelling {
     /// Of those that a report explains of the replies that it named, nothing yet.
-    pub fn new(alloc: Global, report: &Report, named: Vec<FoundReply>) -> Result<Self, AllocError> {
+    pub fn new(
+        alloc: Global,
+        report: &Report,
+        named: Vec<FoundReply>,
+        lent: Option<u32>,
+    ) -> Result<Self, AllocError> {
         let mut retelling = Retelling {
             alloc,
+            lent,
             explained: Vec::new(alloc),
             lines: Vec::new(alloc),
         };
@@ -65,7 +73,8 @@ impl Retelling {
     // Tells of that reply, too.
     fn begin(&mut self, found: FoundReply) -> Result<(), AllocError> {
         self.begin_line(&found)?;
-        self.explained.push(Explaining::new(self.alloc, found, Form::Text)?)?;
+        self.explained
+            .push(Explaining::new(self.alloc, found, Form::Text)?)?;
         Ok(())
     }
 
@@ -78,7 +87,7 @@ impl Retelling {
             }
         }
         let target = found.target.copy(self.alloc)?;
-        self.lines.push(TimeLine::new(self.alloc, target, found.position))?;
+        self.lines.push(TimeLine::new(self.alloc, target, self.lent, found.position))?;
         Ok(())
     }
 
@@ -96,6 +105,7 @@ impl Retelling {
     pub(crate) fn write(self, wrong: u64, html: &mut Html) {
         let Retelling {
             alloc,
+            lent: _,
             explained,
             lines,
         } = self;
@@ -105,8 +115,14 @@ impl Retelling {
         html.leaf(Tag::H2, Class::Plain, "Wrong replies, by target");
         html.begin(Tag::P, Class::Note);
         let told = explained.len() as u64;
-        html.count(told, " wrong replies are explained here, the first of each group and target, and ");
-        html.count(wrong.saturating_sub(told), " are not: hcache explain has them by their positions. ");
+        html.count(
+            told,
+            " wrong replies are explained here, the first of each group and target, and ",
+        );
+        html.count(
+            wrong.saturating_sub(told),
+            " are not: hcache explain has them by their positions. ",
+        );
         html.words(LETTERS);
         html.end(Tag::P);
         for line in lines {
@@ -128,7 +144,8 @@ impl Retelling {
 }
 
 /// How records are named.
-const LETTERS: &str = "A record is named as in the recording, by its position, its letter and its number: r is a response of the \
+const LETTERS: &str =
+    "A record is named as in the recording, by its position, its letter and its number: r is a response of the \
     origin, x that none came, a reply is a, a client's request q, and one to the origin f.";
 
 // Writes the time line of a target, and why its replies are wrong.
@@ -141,27 +158,27 @@ fn write_line(alloc: Global, line: TimeLine, explained: &[Explaining], html: &mu
     html.made(page.into_text());
     html.end(Tag::Code);
     html.begin(Tag::Span, Class::Positions);
-    write_places(&line, explained, html);
+    write_places(&line.target, explained, html);
     html.end(Tag::Span);
     html.end(Tag::Summary);
-    line.write(html);
+    let target = line.write(html);
     write_explained(&target, explained, html);
     html.end(Tag::Details);
 }
 
 // Writes where the replies of that target stand.
-fn write_places(line: &TimeLine, explained: &[Explaining], html: &mut Html) {
+fn write_places(target: &Target, explained: &[Explaining], html: &mut Html) {
     for explaining in explained {
-        if same_target(&line.target, &explaining.found().target) {
+        if same_target(target, &explaining.found().target) {
             html.place(explaining.found().position);
             html.words(" ");
         }
     }
 }
 
-fn write_explained(line: &TimeLine, explained: &[Explaining], html: &mut Html) {
+fn write_explained(target: &Target, explained: &[Explaining], html: &mut Html) {
     for explaining in explained {
-        if same_target(&line.target, &explaining.found().target) {
+        if same_target(target, &explaining.found().target) {
             write_why(explaining, html);
         }
     }

@@ -1,14 +1,11 @@
 //! The rows of a time line.
 
 use crate::changes::{Change, Standing};
-use hc_fields::Fields;
-use hc_head::{RequestHead, is_get};
+use hc_head::ResponseHead;
 use hc_history::{Finding, Mark};
 use hc_html::{Class, Html, Tag};
 use hc_index::OpenForward;
 use hc_shown::{FieldOf, Page, RecordName, Teller};
-use hc_framing::Message;
-use hc_head::{ResponseHead, StatusCode};
 use hc_use::Forbids;
 use std::alloc::Global;
 
@@ -55,12 +52,8 @@ impl Row {
         let mut moment = Page::new(alloc);
         moment.moment(named.moment);
         html.begin(Tag::Li, class);
-        html.begin(Tag::Span, Class::Plain);
-        html.made(place.into_text());
-        html.end(Tag::Span);
-        html.begin(Tag::Time, Class::Plain);
-        html.made(moment.into_text());
-        html.end(Tag::Time);
+        html.leaf_made(Tag::Span, Class::Plain, place.into_text());
+        html.leaf_made(Tag::Time, Class::Plain, moment.into_text());
         html.begin(Tag::Span, Class::Plain);
         html.made(words.into_text());
         if more != 0 {
@@ -109,7 +102,11 @@ pub(crate) fn say_change(change: Change, position: u64, page: &mut Page) {
 }
 
 fn say_freshness(standing: Standing, page: &mut Page) {
-    page.count(", with a lifetime of ", u64::from(standing.lifetime), " s: stale from ");
+    page.count(
+        ", with a lifetime of ",
+        u64::from(standing.lifetime),
+        " s: stale from ",
+    );
     page.moment(standing.stale_from);
     page.words(" on");
 }

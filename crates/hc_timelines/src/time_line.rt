@@ -1,15 +1,21 @@
 //! The time line of a target: what came for it, and what that made of what is stored of it.
 
+ghost use Rattle.std.specs.Prelude.{◌≡◌, List, option_map};
+ghost use Rattle.hc_transcript.specs.declared.format.Format.{Format};
+ghost use Rattle.hc_transcript.specs.Items.{Item};
+ghost use Rattle.hc_history.specs.Seen.{IsSeenAs, live_of};
+ghost use Rattle.hc_index.specs.Lists.{state_in};
+ghost use Rattle.hc_timelines.specs.Standings.{standing_of};
+
 use crate::changes::{Change, Standing, change_at, standing_of};
 use crate::rows::{Row, class_of, say_change, say_finding, say_forbidden, say_mark, say_response};
 use hc_audit::{JudgedReply, PassedRecord};
-use hc_framing::Message;
 use hc_head::{ResponseHead, StatusCode, Target, is_error_status, same_target};
-use hc_history::{Finding, Mark, ReplyClaim};
+use hc_history::{Mark, ReplyClaim};
 use hc_html::{Class, Html, Tag};
 use hc_index::{Index, OpenForward};
 use hc_past::named;
-use hc_shown::{Page, RecordName, Teller};
+use hc_shown::{RecordName, Teller};
 use hc_transcript::{Kind, Meaning};
 use hc_use::what_forbids;
 use std::alloc::{AllocError, Global};
@@ -34,8 +40,10 @@ struct Lane {
 pub(crate) struct TimeLine {
     alloc: Global,
     pub(crate) target: Target,
+    // The lifetime that is lent to what states none, if one is.
+    lent: Option<u32>,
     last: u64,
-    lanes: VecDeque<Lane>,
+    lanes: Vec<Lane>,
     rows: VecDeque<Row>,
     // How many rows were left out.
     earlier: u64,
@@ -45,12 +53,13 @@ pub(crate) struct TimeLine {
 
 impl TimeLine {
     /// Nothing yet, of that target, up to that reply.
-    pub(crate) fn new(alloc: Global, target: Target, last: u64) -> Self {
+    pub(crate) fn new(alloc: Global, target: Target, lent: Option<u32>, last: u64) -> Self {
         TimeLine {
             alloc,
             target,
+            lent,
             last,
-            lanes: VecDeque::new(alloc),
+            lanes: Vec::new(alloc),
             rows: VecDeque::new(alloc),
             earlier: 0,
             unsettled: None,
@@ -77,27 +86,27 @@ impl TimeLine {
         let Some(position) = self.unsettled.take() else {
             return;
         };
-        let Some(row) = self.rows.back_mut() else {
-            return;
-        };
-        for lane in self.lanes.iter_mut() {
-            let now = standing_at(index, &self.target, lane.position);
-            if let Some(change) = change_at(position, lane.standing, now) {
-                row.class = class_by(change, row.class);
-                say_change(change, lane.position, &mut row.words);
-            }
-            lane.standing = now;
+        if let Some(row) = self.rows.back_mut() {
+            let lanes = self.lanes.as_mut_slice();
+            settle(index, &self.target, self.lent, position, lanes, row);
         }
     }
 
     /// Takes in the next record, which is no reply.
-    pub(crate) fn pass<I: Index>(&mut self, passed: &PassedRecord<'_, I>) -> Result<(), AllocError> {
+    pub(crate) fn pass<I: Index>(
+        &mut self,
+        passed: &PassedRecord<'_, I>,
+    ) -> Result<(), AllocError> {
         self.settle(passed.index);
         if self.last < passed.position {
             return Ok(());
         }
         match &passed.item.of {
-            Meaning::OriginResponse(response) => self.take_end(passed, Kind::OriginResponse, Some(&response.head)),
+            Meaning::OriginResponse(response) => self.take_end(
+                passed,
+                Kind::OriginResponse,
+                Some(&response.head),
+            ),
             Meaning::OriginFailure => self.take_end(passed, Kind::OriginFailure, None),
             _ => Ok(()),
         }
@@ -156,9 +165,9 @@ impl TimeLine {
     // Follows a response that may be stored.
     fn follow(&mut self, position: u64) -> Result<(), AllocError> {
         if MOST_LANES <= self.lanes.len() {
-            let _oldest = self.lanes.pop_front();
+            let _oldest = self.lanes.remove(0);
         }
-        self.lanes.push_back(Lane {
+        self.lanes.push(Lane {
             position,
             standing: None,
         })?;
@@ -172,7 +181,9 @@ impl TimeLine {
             return Ok(());
         }
         match judged.claim() {
-            Some(claim) if same_target(claim.target, &self.target) => self.take_reply(judged, &claim),
+            Some(claim) if same_target(claim.target, &self.target) => self.take_reply(
+                judged, &claim,
+            ),
             _ => Ok(()),
         }
     }
@@ -195,8 +206,10 @@ impl TimeLine {
         };
         let mut row = Row::new(self.alloc, named, class);
         row.from = from;
-        row.words.said_octets("", claim.request.method.as_slice(), "");
-        row.words.count(" -> ", u64::from(claim.reply.head.status.as_u16()), "");
+        row.words
+            .said_octets("", claim.request.method.as_slice(), "");
+        row.words
+            .count(" -> ", u64::from(claim.reply.head.status.as_u16()), "");
         say_mark(judged.mark, &mut row.words);
         say_finding(judged.finding, from, &mut row.words);
         self.push(row)
@@ -217,11 +230,12 @@ impl TimeLine {
         }
     }
 
-    /// Writes it.
-    pub(crate) fn write(self, html: &mut Html) {
+    /// Writes it, and gives its target back.
+    pub(crate) fn write(self, html: &mut Html) -> Target {
         let TimeLine {
             alloc,
-            target: _,
+            target,
+            lent: _,
             last: _,
             lanes: _,
             rows,
@@ -238,12 +252,40 @@ impl TimeLine {
             row.write(alloc, html);
         }
         html.end(Tag::Ol);
+        target
     }
 }
 
 // How the response of that target at that position stands.
-fn standing_at<I: Index>(index: &I, target: &Target, position: u64) -> Option<Standing> {
-    Some(standing_of(index.response(target, position)?))
+fn standing_at<I: Index>(
+    index: &I,
+    target: &Target,
+    position: u64,
+    lent: Option<u32>,
+) -> Option<Standing>
+    ensures { (format : Format) (h : List Item) → IsSeenAs format (I.seen index.now) h
+        → result ≡ option_map (standing_of lent) (state_in position (live_of target.now h)) }
+{
+    Some(standing_of(lent, index.response(target, position)?))
+}
+
+// Says in the row of the response at that position what it made of what is stored, by an index that has noted it.
+fn settle<I: Index>(
+    index: &I,
+    target: &Target,
+    lent: Option<u32>,
+    position: u64,
+    lanes: &mut [Lane],
+    row: &mut Row,
+) {
+    for lane in lanes {
+        let now = standing_at(index, target, lane.position, lent);
+        if let Some(change) = change_at(position, lane.standing, now) {
+            row.class = class_by(change, row.class);
+            say_change(change, lane.position, &mut row.words);
+        }
+        lane.standing = now;
+    }
 }
 
 // How a response is drawn that does so.
