@@ -363,12 +363,11 @@ enum Strength {
 
 // Whether a word stands in a text.
 fn has_word(text: &str, word: &[u8]) -> bool {
-    let mut rest = text.as_bytes();
-    while let Some((_, behind)) = rest.split_first() {
-        if rest.starts_with(word) {
+    let octets = text.as_bytes();
+    for place in 0..octets.len() {
+        if octets[place..].starts_with(word) {
             return true;
         }
-        rest = behind;
     }
     false
 }

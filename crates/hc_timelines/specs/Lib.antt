@@ -1,1 +1,2 @@
+pub mod Rows
 pub mod Standings

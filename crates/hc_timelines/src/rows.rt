@@ -1,5 +1,8 @@
 //! The rows of a time line.
 
+ghost use Rattle.std.specs.Prelude.{◌≡◌};
+ghost use Rattle.hc_timelines.specs.Rows.{class_of};
+
 use crate::changes::{Change, Standing};
 use hc_head::ResponseHead;
 use hc_history::{Finding, Mark};
@@ -112,7 +115,9 @@ fn say_freshness(standing: Standing, page: &mut Page) {
 }
 
 /// How a reply is drawn.
-pub(crate) fn class_of(finding: Finding, mark: Mark) -> Class {
+pub(crate) fn class_of(finding: Finding, mark: Mark) -> Class
+    ensures { result ≡ class_of finding mark }
+{
     match (finding, mark) {
         (Finding::Wrong(_), _) => Class::Wrong,
         (Finding::Right, Mark::Hit { .. }) => Class::Hit,
