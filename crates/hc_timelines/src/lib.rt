@@ -3,14 +3,14 @@
 #![tactic(auto)]
 
 mod changes;
-mod document;
 mod laws;
 mod naming;
 mod retelling;
 mod rows;
 mod time_line;
+mod whole;
 
-pub use document::{Subject, document};
 pub use laws::stale_from_is_when;
 pub use naming::NamingReport;
 pub use retelling::Retelling;
+pub use whole::{Subject, document};
