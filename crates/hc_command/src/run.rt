@@ -25,7 +25,6 @@ use crate::replaying::replay;
 use crate::reporting::{Beside, ReportForm, report};
 use crate::serving::Server;
 use crate::showing::show;
-use clap::Error;
 use hc_arguments::{
     AuditTerms, ExplainTerms, Order, ReportTerms, beside_html, not_text, parsed, without_baseline,
 };
@@ -35,7 +34,7 @@ use hc_auditing::{
 use hc_figures::Baseline;
 use hc_history::Settings;
 use hc_shown::Span;
-use std::alloc::{AllocError, Global};
+use std::alloc::Global;
 use std::convert::AsStr;
 use std::io::Write;
 use std::rt::{Env, Files};
@@ -191,7 +190,7 @@ where
         (E.contents faults.old) (E.contents faults.new) }
 {
     if has_other_form(form) {
-        return refused(beside_html(rt.alloc()), output, faults);
+        return refused_beside(rt.alloc(), output, faults);
     }
     if file == "-" {
         return not_twice(faults);
@@ -286,7 +285,7 @@ where
         (E.contents faults.old) (E.contents faults.new) }
 {
     if form.strict {
-        return refused(without_baseline(rt.alloc()), output, faults);
+        return refused(rt.alloc(), output, faults);
     }
     let files = ReportFiles {
         input: file,
@@ -301,12 +300,23 @@ where
     reported(rt, files, terms, form, output, faults)
 }
 
-// Says why the words are refused.
-fn refused<W: Write, E: Write>(why: Result<Error, AllocError>, output: &mut W, faults: &mut E) -> u8
+// Says that a baseline has to be named.
+fn refused<W: Write, E: Write>(alloc: Global, output: &mut W, faults: &mut E) -> u8
     ensures status { (result ≡ 64) ⊎ (result ≡ 3) }
     ensures quiet { Keeps (W.contents output.old) (W.contents output.new) }
 {
-    match why {
+    match without_baseline(alloc) {
+        Ok(error) => shown(&error, output, faults),
+        Err(error) => Trouble::from(error).told("", faults),
+    }
+}
+
+// Says that HTML goes without another form.
+fn refused_beside<W: Write, E: Write>(alloc: Global, output: &mut W, faults: &mut E) -> u8
+    ensures status { (result ≡ 64) ⊎ (result ≡ 3) }
+    ensures quiet { Keeps (W.contents output.old) (W.contents output.new) }
+{
+    match beside_html(alloc) {
         Ok(error) => shown(&error, output, faults),
         Err(error) => Trouble::from(error).told("", faults),
     }
