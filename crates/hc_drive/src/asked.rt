@@ -2,7 +2,7 @@
 
 ghost use Rattle.hc_drive.specs.Rounds.{awaited_by, background_by, clients_by, held_by, needed_by};
 
-use hc_events::Incident;
+use hc_events::{Incident, Stock};
 use hc_head::Target;
 use hc_link_traits::Awaiting;
 use hc_machine::Core;
@@ -49,6 +49,10 @@ impl<'a, S: BuildHasher> Awaiting for Asked<'a, S> {
 
     fn incidents(&self) -> &[Incident] {
         self.core.incidents()
+    }
+
+    fn stock(&self) -> Stock {
+        self.core.stock()
     }
 
     fn held(&self, link: Receiver) -> usize {

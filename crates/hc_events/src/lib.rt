@@ -2,10 +2,12 @@
 #![tactic(auto)]
 
 mod incidents;
+mod stock;
 mod troubles;
 
 use hc_fields::Octets;
 pub use incidents::Incident;
+pub use stock::Stock;
 pub use troubles::Trouble;
 
 /// Something that happens at one of a cache's links, and when.

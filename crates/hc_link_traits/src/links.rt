@@ -9,7 +9,7 @@ ghost use Rattle.hc_order.specs.Log.Move.{Closed};
 ghost use Rattle.hc_link_traits.specs.Keeping.{KeepsLinks};
 ghost use Rattle.hc_link_traits.specs.Telling.{MayBeNext, TellsNext, TellsSent};
 
-use hc_events::Incident;
+use hc_events::{Incident, Stock};
 use hc_framing::MessageText;
 use hc_head::Target;
 use hc_order::{Occurrence, Receiver};
@@ -57,6 +57,9 @@ pub trait Awaiting {
     /// What was refused in the last step that was served, and which forwards failed there by what came on them, in the
     /// order in which that happened. It is for whoever tells of it: no clause binds it.
     fn incidents(&self) -> &[Incident];
+
+    /// What its store holds, in numbers. It is for whoever tells of it: no clause binds it.
+    fn stock(&self) -> Stock;
 
     /// How many octets the cache holds of what came on that link and isn't whole.
     fn held(&self, link: Receiver) -> usize

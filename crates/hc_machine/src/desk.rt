@@ -3,6 +3,7 @@
 ghost use Rattle.std.specs.Prelude.{◌≡◌};
 
 use crate::incidents::Incidents;
+use hc_events::Stock;
 use hc_fields::Octets;
 use hc_open::{Client, OpenExchanges, OpenLinks};
 use hc_service::Numbers;
@@ -27,11 +28,12 @@ pub(crate) struct Desk<S: BuildHasher> {
 }
 
 impl<S: BuildHasher> Desk<S> {
-    ghost use Rattle.std.specs.Prelude.{◌≡◌, ◌&&◌, ◌==◌, ℕ};
+    ghost use Rattle.std.specs.Prelude.{◌≡◌, ◌&&◌, ◌==◌, ℕ, length};
     ghost use Rattle.std.specs.FinMap.{len};
     ghost use Rattle.hc_service.specs.declared.settings.CoreOptions.{CoreOptions};
     ghost use Rattle.hc_service.specs.declared.settings.CoreSettings.{CoreSettings};
     ghost use Rattle.hc_service.specs.State.{State, awaits_reply, new_state_with};
+    ghost use Rattle.hc_store.specs.Entries.{entries_weight};
     ghost use Rattle.hc_machine.specs.Held.{held_of_client, held_of_forward, is_background};
     ghost use Rattle.hc_machine.specs.Standing.{DeskStandsFor};
 
@@ -100,6 +102,20 @@ impl<S: BuildHasher> Desk<S> {
         match self.links.by_number.get(&forward) {
             Some(link) => link.reader.heard(),
             None => 0,
+        }
+    }
+
+    /// What the store holds, in numbers.
+    pub(crate) fn stock(&self) -> Stock
+        ensures targets { (settings : CoreSettings) (s : State) → DeskStandsFor settings self.now s
+            → result.targets ≡ length s.store.entries }
+        ensures octets { (settings : CoreSettings) (s : State) → DeskStandsFor settings self.now s
+            → result.octets ≡ entries_weight s.store.entries }
+    {
+        Stock {
+            targets: self.store.len(),
+            octets: self.store.octets(),
+            evicted: self.store.evicted(),
         }
     }
 }

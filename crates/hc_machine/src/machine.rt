@@ -4,7 +4,7 @@ ghost use Rattle.std.specs.Prelude.{◌≡◌};
 
 use crate::desk::Desk;
 use crate::keeping::steps_keep_agreement;
-use hc_events::{Event, Incident};
+use hc_events::{Event, Incident, Stock};
 use hc_head::Target;
 use hc_service::{
     Action, CoreFault, CoreOptions, CoreSettings, StepFault, is_name, is_room, is_size,
@@ -93,7 +93,7 @@ impl<S: BuildHasher + Drop> Core<S> {
 }
 
 impl<S: BuildHasher> Core<S> {
-    ghost use Rattle.std.specs.Prelude.{◌≢◌, ◌&&◌, ◌==◌, ℕ, [], true, false, None, IfOk, IsErrOf, OnErr};
+    ghost use Rattle.std.specs.Prelude.{◌≢◌, ◌&&◌, ◌==◌, ℕ, [], length, true, false, None, IfOk, IsErrOf, OnErr};
     ghost use Rattle.std.specs.FinMap.{len};
     ghost use Rattle.std.specs.Option.{option_copied};
     ghost use Rattle.hc_service.specs.declared.fault.StepFault.TheVariants.{Failed, Memory};
@@ -103,6 +103,7 @@ impl<S: BuildHasher> Core<S> {
     ghost use Rattle.hc_service.specs.Settings.{AreGood};
     ghost use Rattle.hc_service.specs.Serves.{clients_of};
     ghost use Rattle.hc_service.specs.State.{State, awaits_reply};
+    ghost use Rattle.hc_store.specs.Entries.{entries_weight};
     ghost use Rattle.hc_machine.specs.Held.{held_of_client, held_of_forward, is_background, is_needed, target_at};
     ghost use Rattle.hc_machine.specs.Steps.{GivesAgreement, GivesStep, StandsFor, TellsFirst, records_given};
 
@@ -269,5 +270,15 @@ impl<S: BuildHasher> Core<S> {
             return 0;
         }
         self.desk.held_of_forward(forward)
+    }
+
+    /// What its store holds, in numbers. How many targets were dropped no clause says.
+    pub fn stock(&self) -> Stock
+        ensures targets { (settings : CoreSettings) (s : State) → StandsFor settings self.now s
+            → result.targets ≡ length s.store.entries }
+        ensures octets { (settings : CoreSettings) (s : State) → StandsFor settings self.now s
+            → result.octets ≡ entries_weight s.store.entries }
+    {
+        self.desk.stock()
     }
 }

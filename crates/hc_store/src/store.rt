@@ -29,6 +29,8 @@ pub struct Store<S: BuildHasher = DefaultHasher> {
     bytes: usize,
     /// Whether responses that set a cookie are kept.
     keeps_cookies: bool,
+    /// How many keys went since room or memory lacked.
+    evicted: u64,
 }
 
 impl<S: BuildHasher> Model for Store<S> {
@@ -86,6 +88,7 @@ impl<S: BuildHasher + Drop> Store<S> {
             weight: 0,
             bytes,
             keeps_cookies,
+            evicted: 0,
         })
     }
 }
@@ -110,6 +113,18 @@ impl<S: BuildHasher> Store<S> {
         ensures distinct { HasDistinctKeys self.now.entries }
     {
         self.keys.len()
+    }
+
+    /// How many octets all that is held has: bodies, and the names and values of fields, those of requests too.
+    pub fn octets(&self) -> usize
+        ensures { result ≡ entries_weight self.now.entries }
+    {
+        self.weight
+    }
+
+    /// How many keys went since the store was made, since room or memory lacked.
+    pub fn evicted(&self) -> u64 {
+        self.evicted
     }
 
     /// The keys, the most recently used first, each with its variants in the order in which they were
@@ -199,9 +214,11 @@ impl<S: BuildHasher> Store<S> {
         if !is_small_enough(&stored, self.bytes) {
             return Put::TooLarge;
         }
+        let wanted = keys_with(&self.keys, &target);
         match put_in(&mut self.keys, self.weight, self.bytes, target, stored) {
             Ok(weight) => {
                 self.weight = weight;
+                self.evicted = evicted_by(self.evicted, wanted, self.keys.len());
                 Put::Stored
             }
             Err(_) => Put::NoMemory,
@@ -238,6 +255,7 @@ impl<S: BuildHasher> Store<S> {
             response_time,
             position,
         };
+        let wanted = self.keys.len();
         self.weight = freshen_key(
             &mut self.keys,
             self.weight,
@@ -246,6 +264,7 @@ impl<S: BuildHasher> Store<S> {
             validation,
             self.keeps_cookies,
         );
+        self.evicted = evicted_by(self.evicted, wanted, self.keys.len());
     }
 
     /// Removes all variants of the target (RFC 9111 section 4.4).
@@ -255,4 +274,19 @@ impl<S: BuildHasher> Store<S> {
     {
         self.weight = remove_key(&mut self.keys, self.weight, target);
     }
+}
+
+/// How many keys there are once the target is one of them, if none goes.
+fn keys_with<S: BuildHasher>(keys: &LruCache<Target, Variants, S>, target: &Target) -> usize {
+    let count = keys.len();
+    if keys.contains(target) {
+        count
+    } else {
+        count.saturating_add(1)
+    }
+}
+
+/// How many keys went, where so many did before, and so many are left of those that there would be.
+fn evicted_by(before: u64, wanted: usize, left: usize) -> u64 {
+    before.saturating_add(wanted.saturating_sub(left) as u64)
 }
