@@ -49,7 +49,7 @@ fn pause<S: BuildHasher, L: Batches, R: Recorder, V: Watcher<L, R>>(
 {
     flush(recorder)?;
     links.deliver(&Asked { core })?;
-    watcher.look(&*links, &*recorder);
+    watcher.look(&*links, &Asked { core }, &*recorder);
     if links.is_over() {
         return Ok(true);
     }
@@ -96,7 +96,7 @@ fn serve_batches<S: BuildHasher, L: Batches, R: Recorder, V: Watcher<L, R>>(
 /// Serves clients at once, until the links are over: what happens is handed to the cache, and what the cache does is
 /// carried out, batch by batch; the watcher hears and sees both. Behind each batch its records are flushed, before anything
 /// of it is written to a client: so, as far as the links tell what was written, no client has seen a reply that the
-/// recording lacks, whatever goes wrong. Then the watcher looks at the links and at the recorder. Where all is served,
+/// recording lacks, whatever goes wrong. Then the watcher looks at the links, at the cache and at the recorder. Where all is served,
 /// nothing is left open in the cache.
 ///
 /// A recorder that has fallen silent (`Lapsing` of hc_connection) never fails, so all goes on: then what stands in its file

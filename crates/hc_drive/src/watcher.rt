@@ -21,9 +21,9 @@ pub trait Watcher<L, R> {
     fn see<A: Awaiting>(&mut self, links: &L, cache: &A, actions: &[Action])
         ensures { may_become self.old self.new };
 
-    /// Looks at the links and at the recorder, behind a batch: its records were flushed, and what is owed was written, as far
-    /// as links take it now.
-    fn look(&mut self, links: &L, recorder: &R)
+    /// Looks at the links, at the cache and at the recorder, behind a batch: its records were flushed, and what is owed was
+    /// written, as far as links take it now.
+    fn look<A: Awaiting>(&mut self, links: &L, cache: &A, recorder: &R)
         ensures { may_become self.old self.new };
 
     // Where nothing is watched it is as it was.
@@ -44,7 +44,7 @@ impl<L, R> Watcher<L, R> for Unwatched {
 
     fn see<A: Awaiting>(&mut self, _links: &L, _cache: &A, _actions: &[Action]) {}
 
-    fn look(&mut self, _links: &L, _recorder: &R) {}
+    fn look<A: Awaiting>(&mut self, _links: &L, _cache: &A, _recorder: &R) {}
 
     ghost stays = { λ _. refl };
 

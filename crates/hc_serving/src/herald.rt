@@ -202,7 +202,7 @@ where
         self.log.see(&Clients { crowd: links }, cache, actions);
     }
 
-    fn look(&mut self, links: &Crowd<W>, recorder: &T) {
+    fn look<A: Awaiting>(&mut self, links: &Crowd<W>, _cache: &A, recorder: &T) {
         self.look_at_replies(links);
         self.look_at(links.tick(), links.troubles().as_slice(), links.is_behind());
         self.look_at_recording(recorder);
