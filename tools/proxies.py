@@ -78,7 +78,7 @@ class Proxy:
             self.__exit__()
             raise ListensNot(f"the line that it listens: {self.said}")
         self.listens = found[0][1]
-        self.port = int(self.listens.rsplit(":", 1)[1])
+        self.port = int(self.listens.split(", ")[0].rsplit(":", 1)[1])
         return self
 
     def hear(self):

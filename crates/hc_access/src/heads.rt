@@ -79,6 +79,11 @@ pub(crate) fn value_of<'a>(head: &'a [u8], name: &[u8]) -> &'a [u8] {
     value
 }
 
+/// The value of the last Cache-Status of a reply's head, empty where there is none, and the three digits of its status.
+pub fn mark_and_status(head: &[u8]) -> (&[u8], &[u8]) {
+    (value_of(head, b"cache-status"), head.get(9..12).unwrap_or(b""))
+}
+
 /// The value of a line, if it has that name.
 fn value_in<'a>(line: &'a [u8], name: &[u8]) -> Option<&'a [u8]> {
     let (first, rest) = line.split_at_checked(name.len())?;

@@ -5,7 +5,7 @@ ghost use Rattle.hc_access.specs.Accounts.{Accounts, DraftsOne, replies_in, repl
 
 use crate::asked::Asked;
 use crate::drafts::Draft;
-use crate::heads::{first_line, head_len, sender_in, value_of};
+use crate::heads::{first_line, head_len, mark_and_status, sender_in};
 use crate::line::{Replied, front_of, push_time};
 use crate::lines::Lines;
 use crate::visits::{Answered, Visited, Visits};
@@ -15,6 +15,7 @@ use hc_link_traits::Awaiting;
 use hc_order::{Occurrence, Receiver};
 use hc_service::Action;
 use hc_transcript::{Passed, Record};
+use memchr::memmem::find;
 use std::alloc::{AllocError, Global};
 use std::collections::BTreeMap;
 use std::mem;
@@ -71,6 +72,14 @@ impl Drop for Replies {
         drop(fresh);
         drop(slow);
     }
+}
+
+/// A reply to a client, and what went wrong in the step that gave it.
+#[derive(Clone, Copy)]
+struct Given<'a> {
+    client: u64,
+    text: &'a MessageText,
+    incidents: &'a [Incident],
 }
 
 impl Replies {
@@ -132,8 +141,12 @@ impl Replies {
         match action {
             Action::ToClient(client, text) => {
                 let comes = cache.held(Receiver::Client(*client)) > 0;
-                let trouble = trouble_of(cache.incidents(), *client);
-                self.answer(*client, text, trouble, comes, tick);
+                let reply = Given {
+                    client: *client,
+                    text,
+                    incidents: cache.incidents(),
+                };
+                self.answer(reply, comes, tick);
             }
             Action::CloseClient(client) => self.visits.close(*client),
             Action::Forward(_, _) => {}
@@ -160,36 +173,31 @@ impl Replies {
     }
 
     /// A reply was sent to a client.
-    fn answer(&mut self, client: u64, text: &MessageText, trouble: &[u8], comes: bool, tick: u64)
+    fn answer(&mut self, reply: Given<'_>, comes: bool, tick: u64)
         ensures { DraftsOne self.old self.new }
     {
-        let answered = self.visits.answer(client, text.len() as u64, comes, tick);
-        let drafted = self.drafted(client, text, trouble, answered);
+        let octets = reply.text.len() as u64;
+        let answered = self.visits.answer(reply.client, octets, comes, tick);
+        let drafted = self.drafted(reply, answered);
         self.answers = None;
         self.keep(drafted);
     }
 
     /// The line of a reply to a client, of which the request isn't known where it has no record.
-    fn drafted(
-        &self,
-        client: u64,
-        text: &MessageText,
-        trouble: &[u8],
-        answered: Answered,
-    ) -> Result<Draft, AllocError> {
+    fn drafted(&self, reply: Given<'_>, answered: Answered) -> Result<Draft, AllocError> {
         let asked = match &self.answers {
             Some(asked) => asked,
             None => &self.unknown,
         };
         let front = front_of(
             self.alloc,
-            self.visits.address(client),
+            self.visits.address(reply.client),
             self.time.as_slice(),
             asked,
-            replied_by(text, trouble),
+            replied_by(reply, self.answers.is_some()),
         )?;
         Ok(Draft {
-            client,
+            client: reply.client,
             end: answered.end,
             begun: answered.begun,
             front,
@@ -294,21 +302,34 @@ fn asked_of(alloc: Global, message: &MessageText) -> Result<Asked, AllocError> {
     Asked::new(alloc, first_line(head), sender.referer, sender.agent)
 }
 
-/// What a reply tells, and why.
-fn replied_by<'a>(text: &'a MessageText, trouble: &'a [u8]) -> Replied<'a> {
-    let (front, _) = text.parts();
+/// What a reply tells, and why. Its request has a record, or hasn't.
+fn replied_by<'a>(reply: Given<'a>, is_recorded: bool) -> Replied<'a> {
+    let (front, _) = reply.text.parts();
     let head = front.as_slice();
+    let (mark, status) = mark_and_status(head);
+    let trouble: &'static [u8] = if !is_recorded {
+        refused_for(reply.incidents, reply.client)
+    } else if is_own(status, mark) {
+        failed_for(reply.incidents)
+    } else {
+        b""
+    };
     Replied {
-        status: head.get(9..12).unwrap_or(b""),
-        size: text.len().saturating_sub(head_len(head)) as u64,
-        mark: value_of(head, b"cache-status"),
+        status,
+        size: reply.text.len().saturating_sub(head_len(head)) as u64,
+        mark,
         trouble,
     }
 }
 
-/// Why the request of a client was refused in the last step, or else why a forward failed there; empty where neither is so.
-fn trouble_of(incidents: &[Incident], client: u64) -> &'static [u8] {
-    let mut found: &'static [u8] = b"";
+/// Whether a reply may be the cache's own, since no response came that could be given on: it is a server's error (RFC 9110
+/// section 15.6) and no hit.
+fn is_own(status: &[u8], mark: &[u8]) -> bool {
+    status.starts_with(b"5") && find(mark, b";hit").is_none()
+}
+
+/// Why the request of a client was refused in the last step; empty where none was. A request that is refused has no record.
+fn refused_for(incidents: &[Incident], client: u64) -> &'static [u8] {
     for incident in incidents {
         match incident {
             Incident::Refused {
@@ -316,8 +337,20 @@ fn trouble_of(incidents: &[Incident], client: u64) -> &'static [u8] {
                 trouble,
             } if *connection == client => return trouble.name().as_bytes(),
             Incident::Refused { .. } => {}
-            Incident::Failed { trouble, .. } => found = trouble.name().as_bytes(),
+            Incident::Failed { .. } => {}
         }
     }
-    found
+    b""
+}
+
+/// Why the forward failed that ended in the last step; empty where none did. One ends there at most, so what is replied to
+/// because of it is replied to for that.
+fn failed_for(incidents: &[Incident]) -> &'static [u8] {
+    for incident in incidents {
+        match incident {
+            Incident::Refused { .. } => {}
+            Incident::Failed { trouble, .. } => return trouble.name().as_bytes(),
+        }
+    }
+    b""
 }

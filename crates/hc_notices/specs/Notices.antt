@@ -3,7 +3,7 @@ use Rattle.std.specs.Prelude.{◌≡◌, ℕ, ◌==◌, List, [], ◌∷◌, ◌
 use Rattle.std.specs.Io.KnownBytes.{Appends}
 use Rattle.hc_notices.specs.declared.notice.Notice.{Notice}
 use Rattle.hc_notices.specs.declared.notice.Wrongs.{Wrongs}
-use Rattle.hc_notices.specs.declared.notice.Notice.TheVariants.{Listening, Deaf, Refused, Failed, CutOff, Unpolled, Behind, RecordFailed, RecordFull}
+use Rattle.hc_notices.specs.declared.notice.Notice.TheVariants.{Listening, Watched, Deaf, Refused, Failed, CutOff, Unpolled, Behind, RecordFailed, RecordFull}
 
 -- the word for so many times
 abbrev pub times_word : ℕ → List ℕ
@@ -24,6 +24,7 @@ notice_line (Listening greeting) = codes "hcache: listening at " ++ (greeting.ad
     ++ (codes ", before " ++ (greeting.origin.now
     ++ (codes ", with a store of " ++ (decimal greeting.keys
     ++ (codes " keys and " ++ (decimal greeting.bytes ++ (codes " bytes" ++ 10 ∷ []))))))))
+notice_line (Watched addresses) = codes "hcache: status at " ++ (addresses.now ++ 10 ∷ [])
 notice_line Deaf = codes "hcache: a signal ends it at once, since SIGTERM and SIGINT aren't blocked" ++ 10 ∷ []
 notice_line (Refused wrongs) = wrongs_line (codes "requests were refused") wrongs
 notice_line (Failed wrongs) = wrongs_line (codes "responses failed") wrongs

@@ -34,6 +34,8 @@ pub struct Wrongs<'a> {
 pub enum Notice<'a> {
     /// Clients can connect.
     Listening(Greeting<'a>),
+    /// Whoever watches can connect to these addresses, which have commas between them.
+    Watched(&'a str),
     /// A stop can't be heard.
     Deaf,
     /// Requests of clients were refused.
@@ -59,6 +61,7 @@ impl<'a> Notice<'a> {
     {
         match self {
             Notice::Listening(greeting) => listening_line(alloc, greeting),
+            Notice::Watched(addresses) => format!(in alloc; "hcache: status at {addresses}\n"),
             Notice::Deaf => format!(in alloc;
                 "hcache: a signal ends it at once, since SIGTERM and SIGINT aren't blocked\n"
             ),

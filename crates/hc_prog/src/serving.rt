@@ -11,7 +11,7 @@ use hc_command::Server;
 use hc_crowd::{Limits, Patience};
 use hc_service::CoreSettings;
 use hc_serving::{
-    AccessLog, Claim, Health, LogFile, LogTo, Proxy, RecordTo, ServeFault, Service, System, Target,
+    AccessLog, Board, Claim, Health, LogFile, LogTo, Proxy, RecordTo, ServeFault, Service, System, Target,
     Unrecordable, serve, serve_proxy,
 };
 use std::alloc::AllocError;
@@ -81,14 +81,15 @@ where
     };
     match serve(rt, service, settings) {
         Ok(()) => 0,
-        Err(fault) => unserved(fault, names_of(service), faults),
+        Err(fault) => unserved(fault, names_of(service, &[listen]), faults),
     }
 }
 
 // The names of what is served, which say what failed.
-fn names_of(service: Service<'_>) -> Proxy<'_> {
+fn names_of<'a>(service: Service<'a>, listen: &'a [&'a str]) -> Proxy<'a> {
     Proxy {
-        listen: service.listen,
+        listen,
+        status: None,
         origin: service.origin,
         recording: Some(RecordTo {
             file: service.file,
@@ -118,7 +119,8 @@ where
         settings,
     } = proxying;
     let proxy = Proxy {
-        listen,
+        listen: &[listen],
+        status: None,
         origin,
         recording: recording_to(file, terms),
         keeps_cookies,
@@ -179,9 +181,11 @@ where
     ensures { SaysSome (E.contents faults.old) (E.contents faults.new) }
 {
     let health = Health::new();
+    let board = Board::new();
     let system = System {
         rt,
         health: &health,
+        board: &board,
     };
     match serve_proxy(system, proxy, limits, settings, log, faults) {
         Ok(served) => served.into_end(),
@@ -235,7 +239,13 @@ fn unserved<E: Write>(fault: ServeFault, names: Proxy<'_>, faults: &mut E) -> u8
 {
     match fault {
         ServeFault::Memory => Trouble::Memory.told("", faults),
-        ServeFault::Listener(reason) => Trouble::Device(reason).told(names.listen, faults),
+        ServeFault::Listener { place, reason } => {
+            let name = names.listen.get(place).copied().unwrap_or("");
+            Trouble::Device(reason).told(name, faults)
+        }
+        ServeFault::Status(reason) => {
+            Trouble::Device(reason).told(names.status.unwrap_or(""), faults)
+        }
         ServeFault::Origin(reason) => Trouble::Device(reason).told(names.origin, faults),
         ServeFault::OpenFiles { limit, wanted } => too_few_files(limit, wanted, faults),
         ServeFault::Unrecordable(_) => broken("it is no file", file_of(names), faults),

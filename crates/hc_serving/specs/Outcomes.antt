@@ -11,7 +11,7 @@ use Rattle.hc_serving.specs.declared.fault.ServeFault.TheVariants as serve
 
 -- a listener that gives no client, a recorder that fails, and a moment that can't be told are told as such; any other fault is want of memory
 abbrev pub MeansFor : ServingFault → ServeFault → Type 0
-MeansFor Clients (serve.Listener reason) = Unit {0}
+MeansFor Clients (serve.Listener place reason) = Unit {0}
 MeansFor Clients other = ⊥
 MeansFor Recorder (serve.Record reason) = Unit {0}
 MeansFor Recorder other = ⊥

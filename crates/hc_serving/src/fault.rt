@@ -14,9 +14,17 @@ pub enum ServeFault {
     /// Memory was refused.
     #[error("out of memory")]
     Memory,
-    /// The socket to which clients connect failed, for this reason.
-    #[error("no client could connect: {0}")]
-    Listener(io::Error),
+    /// The socket failed to which clients connect.
+    #[error("no client could connect: {reason}")]
+    Listener {
+        /// At which place its address stands among those that were wanted.
+        place: usize,
+        /// Why it failed.
+        reason: io::Error,
+    },
+    /// The socket failed to which whoever watches connects, for this reason.
+    #[error("nobody could watch: {0}")]
+    Status(io::Error),
     /// The origin's name can't be resolved, for this reason.
     #[error("the origin can't be found: {0}")]
     Origin(io::Error),

@@ -1,5 +1,6 @@
-//! What is amiss is told on standard error, and replies in the access log.
+//! What is amiss is told on standard error, replies in the access log, and numbers to those who watch.
 
+use crate::counting::{Beside, Counting};
 use crate::logging::{Addressed, Clients};
 use crate::recorded::{RecordEnd, Recorded};
 use crate::wrongs::{SpokenWrongs, say_wrongs};
@@ -35,6 +36,8 @@ pub(crate) struct Herald<'a, E: Write, L: Target> {
     told_end: bool,
     /// Where replies are logged, if they are.
     log: &'a mut AccessLog<L>,
+    /// What is counted for those who watch.
+    counting: Counting<'a>,
     /// The guest who was turned away last, of those whose replies were logged.
     turned_away: u64,
     alloc: Global,
@@ -51,6 +54,7 @@ impl<'a, E: Write, L: Target> Herald<'a, E, L> {
         health: &'a Health,
         wrongs: &'a mut SpokenWrongs,
         log: &'a mut AccessLog<L>,
+        counting: Counting<'a>,
     ) -> Self
         ensures { result.voice ≡ voice.entry }
     {
@@ -63,6 +67,7 @@ impl<'a, E: Write, L: Target> Herald<'a, E, L> {
             was_behind: false,
             told_end: false,
             log,
+            counting,
             turned_away: 0,
             alloc,
         }
@@ -182,6 +187,26 @@ impl<'a, E: Write, L: Target> Herald<'a, E, L> {
             let _ = stream.push_address(&mut address);
         }
         self.log.turn_away(address.as_slice());
+        self.counting.turn_away();
+    }
+
+    /// Tells the numbers, if they are asked for.
+    fn tell_numbers<W: World, T: Recorded, A: Awaiting>(
+        &self,
+        links: &Crowd<W>,
+        cache: &A,
+        recorder: &T,
+    ) {
+        if !self.counting.is_asked() {
+            return;
+        }
+        let beside = Beside {
+            lost_lines: self.log.lost(),
+            record_ended: recorder.end().is_some(),
+            failed_polls: self.health.failed_polls(),
+            longest_turn: self.health.longest_turn(),
+        };
+        self.counting.tell(self.alloc, links, cache, beside);
     }
 }
 
@@ -196,16 +221,19 @@ where
 
     fn hear(&mut self, links: &Crowd<W>, occurrence: &Occurrence) {
         self.log.hear(&Clients { crowd: links }, occurrence);
+        self.counting.hear(occurrence);
     }
 
     fn see<A: Awaiting>(&mut self, links: &Crowd<W>, cache: &A, actions: &[Action]) {
         self.log.see(&Clients { crowd: links }, cache, actions);
+        self.counting.see(actions);
     }
 
-    fn look<A: Awaiting>(&mut self, links: &Crowd<W>, _cache: &A, recorder: &T) {
+    fn look<A: Awaiting>(&mut self, links: &Crowd<W>, cache: &A, recorder: &T) {
         self.look_at_replies(links);
         self.look_at(links.tick(), links.troubles().as_slice(), links.is_behind());
         self.look_at_recording(recorder);
+        self.tell_numbers(links, cache, recorder);
     }
 
     ghost stays = { λ herald. stays_as_it_is E.contents herald.voice };

@@ -4,6 +4,7 @@
 
 mod checks;
 mod claim;
+mod counting;
 mod fault;
 mod herald;
 mod logging;
@@ -17,8 +18,10 @@ mod watched;
 mod wrongs;
 
 pub use claim::Claim;
+pub use counting::Bounds;
 pub use fault::ServeFault;
 pub use hc_access::{AccessLog, Target};
+pub use hc_monitor::Board;
 pub use hc_sockets::Health;
 pub use logging::{Addressed, LogFile, LogTo};
 pub use proxying::{Proxy, System, serve_proxy};

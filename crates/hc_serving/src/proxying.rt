@@ -12,6 +12,7 @@ ghost use Rattle.hc_serving.specs.Proxies.{HasServed, IsOfBeginning, IsOfMaking,
 
 use crate::checks::{check_open_files, check_recording};
 use crate::claim::Claim;
+use crate::counting::Bounds;
 use crate::fault::ServeFault;
 use crate::recording::{FileRecorder, RecordTo, new_recorder};
 use crate::served::Served;
@@ -20,15 +21,14 @@ use hc_access::{AccessLog, Target};
 use hc_crowd::{Crowd, Limits, World};
 use hc_link_traits::{Batches, Link, Links};
 use hc_machine::{Core, CoreFault};
+use hc_monitor::Board;
 use hc_notices::Greeting;
 use hc_service::{CoreOptions, CoreSettings};
-use hc_sockets::{Health, Sockets, SocketsFault};
-use std::alloc::{AllocError, Global};
+use hc_sockets::{Ends, Health, Sockets, SocketsFault};
 use std::collections::hash_map::RandomState;
-use std::fmt::Write as _;
 use std::io;
 use std::io::Write;
-use std::net::{Net, SocketAddr};
+use std::net::Net;
 use std::random::RandomSource;
 use std::rt::Files;
 use std::time::Clock;
@@ -36,8 +36,11 @@ use std::time::Clock;
 /// Between whom a proxy serves.
 #[derive(Clone, Copy)]
 pub struct Proxy<'a> {
-    /// The host and the port to which clients connect, at each address that the host has.
-    pub listen: &'a str,
+    /// The hosts and the ports to which clients connect, at each address that a host has, and the paths of the system's own
+    /// sockets, behind `unix:`.
+    pub listen: &'a [&'a str],
+    /// The host and the port to which whoever watches connects, if anybody may.
+    pub status: Option<&'a str>,
     /// The host and the port of the origin.
     pub origin: &'a str,
     /// Where and how far that is recorded, if it is.
@@ -63,6 +66,8 @@ pub struct System<'a, R> {
     pub rt: &'a R,
     /// Where its failures are noted.
     pub health: &'a Health,
+    /// Where those who watch leave word.
+    pub board: &'a Board,
 }
 
 /// Serves clients from a new cache of those settings, many at once in one thread, until the program is asked to stop, or as
@@ -82,6 +87,9 @@ pub struct System<'a, R> {
 /// Once clients can connect, `faults` gets a line that says where. Later it gets one for each kind of failure of links,
 /// a second apart at least, one where the wall clock was set back, and one where the recording ends before serving does.
 /// Behind a line that can't be written it gets no other. The log gets a line for each reply, once it was written.
+///
+/// Whoever watches asks at addresses of their own for numbers, for whether it serves, and for a page; none of these requests
+/// reaches the cache, and none is recorded or logged.
 ///
 /// Returns what clients were served by, and how that ended, or why it didn't begin. What its clauses say of links and of
 /// octets is what these tell: a crowd what it heard, sent and closed, the recorder what was written to it. Of the system's
@@ -118,11 +126,12 @@ where
         (telling ⟦<Crowd<Sockets<'a, R>> as Links>⟧.tells ⟦<Crowd<Sockets<'a, R>> as Links>⟧.shows (OfRecorder ⟦<FileRecorder<R::File> as Link>⟧.has_got) (OfRecorder ⟦<FileRecorder<R::File> as Link>⟧.has_kept)
         served.crowd served.recorder) served.core) }
 {
-    let System { rt, health } = system;
+    let System { rt, health, board } = system;
     check_recording(rt, proxy.file())?;
     check_open_files(rt, limits)?;
-    let sockets = new_sockets(rt, health, proxy)?;
-    let addresses = listed(rt.alloc(), sockets.addresses())?;
+    let sockets = new_sockets(system, proxy)?;
+    let addresses = format!(in rt.alloc(); "{}", sockets.addresses())?;
+    let status = format!(in rt.alloc(); "{}", sockets.status_addresses())?;
     let start = Opening {
         alloc: rt.alloc(),
         greeting: Greeting {
@@ -131,6 +140,14 @@ where
             keys: settings.keys,
             bytes: settings.bytes,
         },
+        status: status.as_str(),
+        bounds: Bounds {
+            limits,
+            keys: settings.keys,
+            bytes: settings.bytes,
+            records: proxy.recording.is_some(),
+        },
+        board,
         hears_stops: sockets.hears_stops(),
         health,
     };
@@ -177,18 +194,24 @@ where
 
 /// Sockets to which clients connect, and the addresses of the origin.
 fn new_sockets<'a, R>(
-    rt: &'a R,
-    health: &'a Health,
-    proxy: Proxy<'_>,
+    system: System<'a, R>,
+    proxy: Proxy<'a>,
 ) -> Result<Sockets<'a, R>, ServeFault>
 where
     R: Net + Files + Clock + AllocGlobal,
     ensures { IfErr result IsOfMaking }
 {
-    match Sockets::new(rt, health, proxy.listen, proxy.origin) {
+    let ends = Ends {
+        listen: proxy.listen,
+        origin: proxy.origin,
+        status: proxy.status,
+        board: system.board,
+    };
+    match Sockets::new(system.rt, system.health, ends) {
         Ok(sockets) => Ok(sockets),
         Err(SocketsFault::Memory) => Err(ServeFault::Memory),
-        Err(SocketsFault::Listen(reason)) => Err(ServeFault::Listener(reason)),
+        Err(SocketsFault::Listen(place, reason)) => Err(ServeFault::Listener { place, reason }),
+        Err(SocketsFault::Status(reason)) => Err(ServeFault::Status(reason)),
         Err(SocketsFault::Origin(reason)) => Err(ServeFault::Origin(reason)),
         Err(SocketsFault::Signals(reason)) => Err(ServeFault::Signals(reason)),
     }
@@ -215,19 +238,9 @@ fn new_core<R: RandomSource + AllocGlobal>(
         Err(CoreFault::Name) => unreachable!(),
         // It may keep responses of so many targets.
         Err(CoreFault::Size) => unreachable!(),
-        Err(CoreFault::Room) => Err(ServeFault::Listener(io::Error::other(
-            "a cache has room for 1 to 65536 connections",
-        ))),
+        Err(CoreFault::Room) => Err(ServeFault::Listener {
+            place: 0,
+            reason: io::Error::other("a cache has room for 1 to 65536 connections"),
+        }),
     }
-}
-
-/// The addresses, with commas between them.
-fn listed(alloc: Global, addresses: &[SocketAddr]) -> Result<String, AllocError> {
-    let mut text = String::new(alloc);
-    let mut between = "";
-    for address in addresses {
-        write!(text, "{between}{address}")?;
-        between = ", ";
-    }
-    Ok(text)
 }

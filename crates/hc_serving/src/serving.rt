@@ -136,7 +136,7 @@ where
 fn new_listening<R: Net + AllocGlobal>(rt: &R, address: &str) -> Result<Listening<R>, ServeFault> {
     match TcpListener::bind(rt, address) {
         Ok(listener) => Ok(Listening::new(rt.alloc(), listener)),
-        Err(reason) => Err(ServeFault::Listener(reason)),
+        Err(reason) => Err(ServeFault::Listener { place: 0, reason }),
     }
 }
 
@@ -183,7 +183,10 @@ fn fault_of(
 {
     let unknown = io::Error::from(ErrorKind::Other);
     match fault {
-        ServingFault::Clients => ServeFault::Listener(listening.unwrap_or(unknown)),
+        ServingFault::Clients => ServeFault::Listener {
+            place: 0,
+            reason: listening.unwrap_or(unknown),
+        },
         ServingFault::Recorder => ServeFault::Record(recording.unwrap_or(unknown)),
         ServingFault::Core(StepFault::MomentTooLarge) => ServeFault::Clock,
         // It is want of memory: a new connection tells an idle cache of nothing that it answers by another fault.

@@ -12,6 +12,7 @@ ghost use Rattle.hc_order.specs.Log.{Move};
 ghost use Rattle.hc_drive.specs.Crowds.{GivesCrowd, GivesRecording, stage, telling};
 ghost use Rattle.hc_notices.specs.Notices.{SaysSome};
 
+use crate::counting::{Bounds, Counting};
 use crate::herald::Herald;
 use crate::logging::Addressed;
 use crate::recorded::Recorded;
@@ -21,6 +22,7 @@ use hc_crowd::{Crowd, World};
 use hc_drive::{DriveFault, Watcher, serve_crowd};
 use hc_link_traits::{Batches, Links, Recorder};
 use hc_machine::Core;
+use hc_monitor::Board;
 use hc_notices::{Greeting, Notice, Voice};
 use hc_sockets::Health;
 use std::alloc::Global;
@@ -34,6 +36,12 @@ pub struct Opening<'a> {
     pub alloc: Global,
     /// Where clients can connect, and what is behind that.
     pub greeting: Greeting<'a>,
+    /// Where whoever watches can connect; empty where nobody can.
+    pub status: &'a str,
+    /// What bounds it, as those who watch are told.
+    pub bounds: Bounds,
+    /// Where they leave word, and are told.
+    pub board: &'a Board,
     /// Whether signals that ask the program to stop can be seen.
     pub hears_stops: bool,
     /// Whether the system still does what serving needs.
@@ -73,8 +81,10 @@ where
     let alloc = start.alloc;
     let voice = Voice::new(alloc, faults);
     let mut wrongs = SpokenWrongs::new(alloc);
-    let mut herald = Herald::new(alloc, voice, start.health, &mut wrongs, log);
+    let counting = Counting::new(start.board, !start.status.is_empty(), start.bounds);
+    let mut herald = Herald::new(alloc, voice, start.health, &mut wrongs, log, counting);
     herald.say(Notice::Listening(start.greeting));
+    herald.say_if(!start.status.is_empty(), Notice::Watched(start.status));
     herald.say_if(!start.hears_stops, Notice::Deaf);
     let served = served_by(alloc, core, crowd, recorder, &mut herald);
     // What wasn't told yet is told now.

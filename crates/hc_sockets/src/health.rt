@@ -26,6 +26,9 @@ pub struct Health {
     last: Cell<Duration>,
     /// Why serving ends, if it does.
     end: Cell<Option<Breakdown>>,
+    /// When this turn began, in which nothing is waited for, and how many microseconds the longest one took.
+    begun: Cell<Duration>,
+    longest_turn: Cell<u64>,
 }
 
 impl Drop for Health {
@@ -35,11 +38,15 @@ impl Drop for Health {
             in_a_row,
             last,
             end,
+            begun,
+            longest_turn,
         } = self;
         drop(failed);
         drop(in_a_row);
         drop(last);
         drop(end);
+        drop(begun);
+        drop(longest_turn);
     }
 }
 
@@ -51,6 +58,8 @@ impl Health {
             in_a_row: Cell::new(0),
             last: Cell::new(Duration::ZERO),
             end: Cell::new(None),
+            begun: Cell::new(Duration::MAX),
+            longest_turn: Cell::new(0),
         }
     }
 
@@ -84,6 +93,25 @@ impl Health {
                 self.last.get()
             }
         }
+    }
+
+    /// A turn begins.
+    pub(crate) fn begin_turn(&self, now: Duration) {
+        self.begun.set(now);
+    }
+
+    /// It ends. The time before the first one counts for none.
+    pub(crate) fn end_turn(&self, now: Duration) {
+        let took = now.saturating_sub(self.begun.get()).as_micros();
+        let took = u64::try_from(took).unwrap_or(u64::MAX);
+        if took > self.longest_turn.get() {
+            self.longest_turn.set(took);
+        }
+    }
+
+    /// How many microseconds the longest turn took, in which nothing was waited for: 0 where turns aren't timed.
+    pub fn longest_turn(&self) -> u64 {
+        self.longest_turn.get()
     }
 
     /// Serving ends for this reason, if it doesn't end for another one already.

@@ -3,6 +3,7 @@
 
 mod addresses;
 mod attempts;
+mod channel;
 mod clock;
 mod health;
 mod listeners;
@@ -12,8 +13,11 @@ mod origin;
 mod process;
 mod signals;
 mod sockets;
+mod stale;
 mod system_link;
 mod tokens;
+mod watchers;
+mod watching;
 mod wire;
 
 pub use clock::SystemClock;
@@ -21,6 +25,6 @@ pub use health::{Breakdown, Health};
 pub use listening::Listening;
 pub use open_files::most_open_files;
 pub use origin::Origin;
-pub use sockets::{Sockets, SocketsFault};
+pub use sockets::{Ends, Sockets, SocketsFault};
 pub use system_link::{Device, Recording, Socket, SystemLink};
 pub use wire::Wire;

@@ -1,36 +1,68 @@
 //! The sockets to which clients connect.
 
 use crate::addresses::addresses_of;
+use crate::channel::Channel;
+use crate::stale::remove_stale;
 use crate::tokens::Source;
 use hc_crowd::Accepted;
-use mio::net::{TcpListener, TcpStream};
+use mio::net::{TcpListener, UnixListener};
 use mio::{Interest, Poll, Registry};
+use std::alloc::{AllocError, Global};
+use std::fmt::Write as _;
 use std::io;
 use std::io::ErrorKind;
 use std::net::{Net, SocketAddr};
+use std::rt::Files;
 
 /// How many clients in a row may give up before they are accepted.
 const TRIES: u32 = 1_000;
 
+/// What an address begins with that is the path of a socket of the system's own.
+const UNIX: &str = "unix:";
+
 /// A socket to which clients connect.
-#[derive(Drop)]
+enum Door {
+    /// Over TCP.
+    Tcp(TcpListener),
+    /// Within the system.
+    Unix(UnixListener),
+}
+
+impl Drop for Door {
+    fn drop(self) {
+        match self {
+            Door::Tcp(listener) => drop(listener),
+            Door::Unix(listener) => drop(listener),
+        }
+    }
+}
+
+/// A socket to which clients connect, and whether one may wait there.
 struct Listener {
-    socket: TcpListener,
-    /// Whether a client may wait there.
+    door: Door,
     ready: bool,
 }
 
-/// A client who has connected, and the address from which it did.
+impl Drop for Listener {
+    fn drop(self) {
+        let Listener { door, ready: _ } = self;
+        drop(door);
+    }
+}
+
+/// A client who has connected, and the address from which it did, over TCP.
 #[derive(Drop)]
 pub(crate) struct Caller {
-    pub(crate) stream: TcpStream,
-    pub(crate) address: SocketAddr,
+    pub(crate) stream: Channel,
+    pub(crate) address: Option<SocketAddr>,
 }
 
 /// The sockets to which clients connect, each at an address.
 pub(crate) struct Listeners {
+    alloc: Global,
     listeners: Vec<Listener>,
-    addresses: Vec<SocketAddr>,
+    /// Their addresses, with commas between them.
+    names: String,
     /// The place of the one whose turn it is.
     turn: usize,
 }
@@ -38,52 +70,108 @@ pub(crate) struct Listeners {
 impl Drop for Listeners {
     fn drop(self) {
         let Listeners {
+            alloc: _,
             listeners,
-            addresses,
+            names,
             turn: _,
         } = self;
         drop(listeners);
-        drop(addresses);
+        drop(names);
     }
 }
 
+/// Why nobody can connect to an address, and at which place it stands among those that were wanted.
+#[derive(Clone, Copy)]
+pub(crate) struct Unbound {
+    pub(crate) place: usize,
+    pub(crate) reason: io::Error,
+}
+
 impl Listeners {
-    /// One for each address of that host and port, of which the poll tells.
-    pub(crate) fn bind<R: Net + AllocGlobal>(
+    /// One for each address of those hosts and ports, and one for each path, of which the poll tells.
+    pub(crate) fn bind<R: Net + Files + AllocGlobal>(
         rt: &R,
         poll: &Poll,
-        address: &str,
-    ) -> io::Result<Self> {
-        let wanted = addresses_of(rt, address)?;
+        wanted: &[&str],
+    ) -> Result<Self, Unbound> {
         let mut listeners = Listeners {
+            alloc: rt.alloc(),
             listeners: Vec::new(rt.alloc()),
-            addresses: Vec::new(rt.alloc()),
+            names: String::new(rt.alloc()),
             turn: 0,
         };
-        'wanted: for address in wanted.as_slice() {
-            listeners.add(rt, poll, *address)?;
+        let mut place = 0usize;
+        'wanted: for address in wanted {
+            if let Err(reason) = listeners.bind_at(rt, poll, address) {
+                return Err(Unbound { place, reason });
+            }
+            place = place.saturating_add(1);
         }
         Ok(listeners)
     }
 
-    /// One more, at that address.
-    fn add<R: Net>(&mut self, rt: &R, poll: &Poll, address: SocketAddr) -> io::Result<()> {
-        let mut socket = TcpListener::bind(rt, address)?;
-        self.addresses.push(socket.local_addr()?)?;
+    /// Those at one of them.
+    fn bind_at<R: Net + Files + AllocGlobal>(
+        &mut self,
+        rt: &R,
+        poll: &Poll,
+        wanted: &str,
+    ) -> io::Result<()> {
+        match wanted.strip_prefix(UNIX) {
+            Some(path) => self.bind_path(rt, poll, path),
+            None => self.bind_host(rt, poll, wanted),
+        }
+    }
+
+    /// One for each address of that host and port.
+    fn bind_host<R: Net + AllocGlobal>(
+        &mut self,
+        rt: &R,
+        poll: &Poll,
+        wanted: &str,
+    ) -> io::Result<()> {
+        let addresses = addresses_of(rt, wanted)?;
+        'addresses: for address in addresses.as_slice() {
+            let listener = TcpListener::bind(rt, *address)?;
+            let name = format!(in self.alloc; "{}", listener.local_addr()?)?;
+            self.add(poll, Door::Tcp(listener), name.as_str())?;
+        }
+        Ok(())
+    }
+
+    /// One at that path. A socket there to which nobody listens any more is removed.
+    fn bind_path<R: Net + Files>(&mut self, rt: &R, poll: &Poll, path: &str) -> io::Result<()> {
+        remove_stale(rt, path);
+        let listener = UnixListener::bind(rt, path)?;
+        let name = format!(in self.alloc; "{UNIX}{path}")?;
+        self.add(poll, Door::Unix(listener), name.as_str())
+    }
+
+    /// One more, of that name.
+    fn add(&mut self, poll: &Poll, door: Door, name: &str) -> io::Result<()> {
+        let mut listener = Listener { door, ready: true };
         let place = self.listeners.len() as u64;
         let Some(token) = Source::Listener(place).token() else {
             return Err(io::Error::from(ErrorKind::OutOfMemory));
         };
-        poll.registry()
-            .register(&mut socket, token, Interest::READABLE)?;
-        let ready = true;
-        self.listeners.push(Listener { socket, ready })?;
+        match &mut listener.door {
+            Door::Tcp(door) => poll.registry().register(door, token, Interest::READABLE)?,
+            Door::Unix(door) => poll.registry().register(door, token, Interest::READABLE)?,
+        }
+        self.note_name(name)?;
+        self.listeners.push(listener)?;
         Ok(())
     }
 
-    /// Their addresses, each with the port that it really has.
-    pub(crate) fn addresses(&self) -> &[SocketAddr] {
-        self.addresses.as_slice()
+    /// Puts a name at the end.
+    fn note_name(&mut self, name: &str) -> Result<(), AllocError> {
+        let between = if self.names.is_empty() { "" } else { ", " };
+        write!(self.names, "{between}{name}").map_err(|_| AllocError)
+    }
+
+    /// Their addresses, each with the port that it really has, with commas between them.
+    pub(crate) fn addresses(&self) -> &str {
+        self.names.as_str()
     }
 
     /// A client may wait at the listener at that place.
@@ -139,9 +227,11 @@ impl Listener {
         let Some(token) = Source::Listener(place).token() else {
             return false;
         };
-        registry
-            .reregister(&mut self.socket, token, Interest::READABLE)
-            .is_ok()
+        let told = match &mut self.door {
+            Door::Tcp(door) => registry.reregister(door, token, Interest::READABLE),
+            Door::Unix(door) => registry.reregister(door, token, Interest::READABLE),
+        };
+        told.is_ok()
     }
 
     /// The next client. Behind an error the socket is asked again.
@@ -149,13 +239,35 @@ impl Listener {
         if !self.ready {
             return Accepted::Later;
         }
-        match accepted(&self.socket) {
+        match accepted(&self.door) {
             Ok(caller) => Accepted::Client(caller),
             Err(error) if error.kind() == ErrorKind::WouldBlock => {
                 self.ready = false;
                 Accepted::Later
             }
             Err(_) => Accepted::Full,
+        }
+    }
+}
+
+impl Door {
+    /// The next client.
+    fn accept(&self) -> io::Result<Caller> {
+        match self {
+            Door::Tcp(listener) => {
+                let (stream, address) = listener.accept()?;
+                Ok(Caller {
+                    stream: Channel::Tcp(stream),
+                    address: Some(address),
+                })
+            }
+            Door::Unix(listener) => {
+                let (stream, _) = listener.accept()?;
+                Ok(Caller {
+                    stream: Channel::local(stream),
+                    address: None,
+                })
+            }
         }
     }
 }
@@ -167,10 +279,10 @@ fn next_turn(turn: usize, count: usize) -> usize {
 }
 
 /// The next client. One that gives up before it is accepted is passed over.
-fn accepted(listener: &TcpListener) -> io::Result<Caller> {
+fn accepted(door: &Door) -> io::Result<Caller> {
     for _ in 0..TRIES {
-        match listener.accept() {
-            Ok((stream, address)) => return Ok(Caller { stream, address }),
+        match door.accept() {
+            Ok(caller) => return Ok(caller),
             Err(error) if error.kind() == ErrorKind::ConnectionAborted => {}
             Err(error) => return Err(error),
         }

@@ -5,17 +5,20 @@ ghost use Rattle.mio.specs.Event.{is_error, is_read_closed, is_readable, is_writ
 
 use crate::addresses::addresses_of;
 use crate::attempts::{Attempts, Stage};
+use crate::channel::Channel;
 use crate::health::Health;
-use crate::listeners::{Caller, Listeners};
+use crate::listeners::{Caller, Listeners, Unbound};
 use crate::signals::Signals;
 use crate::tokens::Source;
+use crate::watchers::Watchers;
 use crate::wire::Wire;
 use hc_crowd::{Accepted, Ready, World};
 use hc_flow::Readiness;
+use hc_monitor::Board;
 use hc_order::Receiver;
 use mio::event::Event;
 use mio::net::TcpStream;
-use mio::{Events, Interest, Poll};
+use mio::{Events, Poll};
 use std::alloc::AllocError;
 use std::io;
 use std::io::ErrorKind;
@@ -34,8 +37,10 @@ const LONGEST_WAIT: u64 = 250;
 pub enum SocketsFault {
     /// Memory was refused.
     Memory,
-    /// No client could connect, for this reason.
-    Listen(io::Error),
+    /// No client could connect to the address at that place, for this reason.
+    Listen(usize, io::Error),
+    /// Nobody could watch, for this reason.
+    Status(io::Error),
     /// The origin has no address, for this reason.
     Origin(io::Error),
     /// The system doesn't tell which signals are pending, for this reason.
@@ -46,6 +51,19 @@ impl From<AllocError> for SocketsFault {
     fn from(_error: AllocError) -> SocketsFault {
         SocketsFault::Memory
     }
+}
+
+/// Where clients and those who watch connect, and what is behind that.
+#[derive(Clone, Copy)]
+pub struct Ends<'a> {
+    /// The hosts and ports to which clients connect, and the paths of the system's own sockets behind `unix:`.
+    pub listen: &'a [&'a str],
+    /// The host and the port of the origin.
+    pub origin: &'a str,
+    /// The host and the port to which those connect who watch, if any do.
+    pub status: Option<&'a str>,
+    /// Where they and whoever serves leave word for each other.
+    pub board: &'a Board,
 }
 
 /// The system's sockets, clocks and signals. What is ready is asked of all sockets at once.
@@ -59,6 +77,9 @@ pub struct Sockets<'a, R: Net + Files + Clock> {
     /// How many of them were told.
     told: usize,
     listeners: Listeners,
+    watchers: Watchers<'a>,
+    /// Whether clients can connect.
+    listens: bool,
     /// The addresses of the origin, in the order in which they are tried.
     origin: Vec<SocketAddr>,
     attempts: Attempts,
@@ -74,6 +95,8 @@ impl<'a, R: Net + Files + Clock> Drop for Sockets<'a, R> {
             events,
             told: _,
             listeners,
+            watchers,
+            listens: _,
             origin,
             attempts,
             signals,
@@ -81,6 +104,7 @@ impl<'a, R: Net + Files + Clock> Drop for Sockets<'a, R> {
         drop(poll);
         drop(events);
         drop(listeners);
+        drop(watchers);
         drop(origin);
         drop(attempts);
         drop(signals);
@@ -88,16 +112,13 @@ impl<'a, R: Net + Files + Clock> Drop for Sockets<'a, R> {
 }
 
 impl<'a, R: Net + Files + Clock + AllocGlobal> Sockets<'a, R> {
-    /// Clients can connect to each address of the host and port `listen`. The name of the origin is resolved now, once.
-    pub fn new(
-        rt: &'a R,
-        health: &'a Health,
-        listen: &str,
-        origin: &str,
-    ) -> Result<Self, SocketsFault> {
-        let origin = addresses_of(rt, origin).map_err(origin_fault)?;
-        let poll = Poll::new(rt).map_err(listen_fault)?;
-        let listeners = Listeners::bind(rt, &poll, listen).map_err(listen_fault)?;
+    /// Clients can connect to each address of the hosts and ports, and to each path, and those who watch to theirs. The name
+    /// of the origin is resolved now, once.
+    pub fn new(rt: &'a R, health: &'a Health, ends: Ends<'a>) -> Result<Self, SocketsFault> {
+        let origin = addresses_of(rt, ends.origin).map_err(origin_fault)?;
+        let poll = Poll::new(rt).map_err(poll_fault)?;
+        let listeners = Listeners::bind(rt, &poll, ends.listen).map_err(listen_fault)?;
+        let watchers = watchers_at(rt, &poll, ends)?;
         Ok(Sockets {
             rt,
             health,
@@ -105,6 +126,8 @@ impl<'a, R: Net + Files + Clock + AllocGlobal> Sockets<'a, R> {
             events: Events::with_capacity(rt.alloc(), MOST_EVENTS)?,
             told: 0,
             listeners,
+            watchers,
+            listens: true,
             origin,
             attempts: Attempts::new(rt.alloc())?,
             signals: Signals::new(rt, rt.alloc()).map_err(signals_fault)?,
@@ -113,9 +136,35 @@ impl<'a, R: Net + Files + Clock + AllocGlobal> Sockets<'a, R> {
 }
 
 impl<'a, R: Net + Files + Clock> Sockets<'a, R> {
-    /// The addresses to which clients connect, each with the port that it really has.
-    pub fn addresses(&self) -> &[SocketAddr] {
+    /// The addresses to which clients connect, each with the port that it really has, with commas between them.
+    pub fn addresses(&self) -> &str {
         self.listeners.addresses()
+    }
+
+    /// Those to which whoever watches connects; empty where nobody can.
+    pub fn status_addresses(&self) -> &str {
+        self.watchers.addresses()
+    }
+
+    /// Whether it serves, and nobody has asked it to stop.
+    fn serves(&self) -> bool {
+        self.listens && !self.health.ends()
+    }
+
+    /// Waits for what becomes ready, so many milliseconds at most.
+    fn poll_for(&mut self, most: u64) {
+        let most = Duration::from_millis(most.min(LONGEST_WAIT));
+        // Where the system refuses it, nothing is ready.
+        let polled = self.poll.poll(&mut self.events, Some(most));
+        self.health.note_poll(polled);
+    }
+
+    /// The same, and how long it took from the last wait to this one is noted.
+    fn poll_timed(&mut self, most: u64) {
+        self.watchers.answer();
+        self.health.end_turn(self.monotonic());
+        self.poll_for(most);
+        self.health.begin_turn(self.monotonic());
     }
 
     /// Whether signals that ask the program to stop can be seen: they are blocked, and the system tells which are pending.
@@ -136,6 +185,15 @@ impl<'a, R: Net + Files + Clock> Sockets<'a, R> {
             Source::Listener(place) => {
                 self.listeners.wake(place);
                 Some(Ready::Clients)
+            }
+            Source::Lookout(place) => {
+                self.watchers.welcome(self.poll.registry(), place);
+                None
+            }
+            Source::Watcher(number) => {
+                let serves = self.serves();
+                self.watchers.hear(number, serves);
+                None
             }
             Source::Guest(number) => Some(Ready::Guest(number, readiness_of(event, true))),
             Source::Client(number) => {
@@ -169,7 +227,7 @@ impl<'a, R: Net + Files + Clock> Sockets<'a, R> {
     /// The link of a client who has connected, which is told of as that guest.
     fn invited(&self, guest: u64, caller: Caller) -> Accepted<Wire> {
         let Caller { stream, address } = caller;
-        match self.wired(stream, Source::Guest(guest), Some(address)) {
+        match self.wired(stream, Source::Guest(guest), address) {
             Some(wire) => Accepted::Client(wire),
             None => Accepted::Full,
         }
@@ -178,17 +236,13 @@ impl<'a, R: Net + Files + Clock> Sockets<'a, R> {
     /// What becomes ready at a stream is told from now on. None, where the system refuses that.
     fn wired(
         &self,
-        mut stream: TcpStream,
+        mut stream: Channel,
         source: Source,
         peer: Option<SocketAddr>,
     ) -> Option<Wire> {
-        // A socket that refuses it works all the same.
-        let _ = stream.set_nodelay(true);
+        stream.delay_nothing();
         let token = source.token()?;
-        self.poll
-            .registry()
-            .register(&mut stream, token, Interest::READABLE | Interest::WRITABLE)
-            .ok()?;
+        stream.register(self.poll.registry(), token).ok()?;
         Some(Wire::new(stream, peer))
     }
 }
@@ -206,10 +260,11 @@ impl<'a, R: Net + Files + Clock> World for Sockets<'a, R> {
         if self.health.ends() {
             return;
         }
-        let most = Duration::from_millis(most.min(LONGEST_WAIT));
-        // Where the system refuses it, nothing is ready.
-        let polled = self.poll.poll(&mut self.events, Some(most));
-        self.health.note_poll(polled);
+        if self.watchers.can_be() {
+            self.poll_timed(most);
+        } else {
+            self.poll_for(most);
+        }
     }
 
     fn ready(&mut self) -> Option<Ready> {
@@ -244,7 +299,7 @@ impl<'a, R: Net + Files + Clock> World for Sockets<'a, R> {
     fn connect(&mut self, forward: u64, attempt: u32) -> Option<Wire> {
         let first = self.attempts.first_address(forward, attempt);
         let (stream, address) = self.begin_connecting(first)?;
-        let wire = self.wired(stream, Source::Origin(forward, attempt), None)?;
+        let wire = self.wired(Channel::Tcp(stream), Source::Origin(forward, attempt), None)?;
         self.attempts.begin(forward, attempt, address);
         Some(wire)
     }
@@ -274,6 +329,7 @@ impl<'a, R: Net + Files + Clock> World for Sockets<'a, R> {
     }
 
     fn stop_listening(&mut self) {
+        self.listens = false;
         self.listeners.close();
     }
 }
@@ -296,12 +352,42 @@ fn readiness_of(event: Event, fails: bool) -> Readiness
     }
 }
 
-/// Why no client could connect.
-fn listen_fault(error: io::Error) -> SocketsFault {
+/// Those who watch, where they connect.
+fn watchers_at<'a, R: Net + AllocGlobal>(
+    rt: &R,
+    poll: &Poll,
+    ends: Ends<'a>,
+) -> Result<Watchers<'a>, SocketsFault> {
+    let mut watchers = Watchers::none(rt.alloc(), ends.board);
+    if let Some(address) = ends.status {
+        watchers.bind(rt, poll, address).map_err(status_fault)?;
+    }
+    Ok(watchers)
+}
+
+/// Why nobody could watch.
+fn status_fault(error: io::Error) -> SocketsFault {
     if error.kind() == ErrorKind::OutOfMemory {
         return SocketsFault::Memory;
     }
-    SocketsFault::Listen(error)
+    SocketsFault::Status(error)
+}
+
+/// Why nothing can be told of any socket.
+fn poll_fault(error: io::Error) -> SocketsFault {
+    listen_fault(Unbound {
+        place: 0,
+        reason: error,
+    })
+}
+
+/// Why no client could connect.
+fn listen_fault(unbound: Unbound) -> SocketsFault {
+    let Unbound { place, reason } = unbound;
+    if reason.kind() == ErrorKind::OutOfMemory {
+        return SocketsFault::Memory;
+    }
+    SocketsFault::Listen(place, reason)
 }
 
 /// Why the origin has no address.

@@ -5,7 +5,7 @@ ghost use Rattle.std.specs.Prelude.{◌≡◌, ◌+◌, ◌*◌, ◌<◌, IfSome
 use mio::Token;
 
 /// So many kinds of sources are told apart.
-const KINDS: u64 = 4;
+const KINDS: u64 = 8;
 
 /// The kind of clients' links. A listener has kind 0.
 const CLIENT: u64 = 1;
@@ -16,6 +16,12 @@ const ORIGIN: u64 = 2;
 /// The kind of guests' links.
 const GUEST: u64 = 3;
 
+/// The kind of the sockets to which those connect who watch.
+const LOOKOUT: u64 = 4;
+
+/// The kind of links of those who watch.
+const WATCHER: u64 = 5;
+
 /// So many links can be begun for a forward.
 const ATTEMPTS: u64 = 64;
 
@@ -24,6 +30,10 @@ const ATTEMPTS: u64 = 64;
 pub(crate) enum Source {
     /// The listener at that place.
     Listener(u64),
+    /// The socket at that place to which those connect who watch.
+    Lookout(u64),
+    /// The link of that number of one who watches.
+    Watcher(u64),
     /// The link of the guest of that number.
     Guest(u64),
     /// The link of the client of that number.
@@ -41,6 +51,8 @@ impl Source {
     {
         match self {
             Source::Listener(place) => packed(place, 0),
+            Source::Lookout(place) => packed(place, LOOKOUT),
+            Source::Watcher(number) => packed(number, WATCHER),
             Source::Guest(number) => packed(number, GUEST),
             Source::Client(number) => packed(number, CLIENT),
             Source::Origin(forward, attempt) => packed(link_number(forward, attempt)?, ORIGIN),
@@ -56,6 +68,8 @@ impl Source {
             CLIENT => Source::Client(number),
             ORIGIN => Source::Origin(number / ATTEMPTS, (number % ATTEMPTS) as u32),
             GUEST => Source::Guest(number),
+            LOOKOUT => Source::Lookout(number),
+            WATCHER => Source::Watcher(number),
             _ => Source::Listener(number),
         }
     }
@@ -63,7 +77,7 @@ impl Source {
 
 /// The token of a number of that kind.
 fn packed(number: u64, kind: u64) -> Option<Token>
-    ensures { IfSome result (λ token. token.0 ≡ number * 4 + kind) }
+    ensures { IfSome result (λ token. token.0 ≡ number * 8 + kind) }
 {
     let token = number.checked_mul(KINDS)?.checked_add(kind)?;
     Some(Token(token as usize))

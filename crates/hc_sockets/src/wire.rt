@@ -1,36 +1,33 @@
 //! A socket that is never waited for.
 
+use crate::channel::Channel;
 use hc_flow::{Arrival, Presence, Stream, Uptake};
-use mio::net::TcpStream;
-use mio::{Interest, Registry, Token};
-use std::io::{ErrorKind, IoSlice, Read};
-use std::net::{Shutdown, SocketAddr};
+use mio::{Registry, Token};
+use std::io::{ErrorKind, IoSlice};
+use std::net::SocketAddr;
 
 /// A socket that is never waited for. It is told of no more once it is dropped.
 #[derive(Drop)]
 pub struct Wire {
-    stream: TcpStream,
-    /// The address of the other side, if it connected to us.
+    stream: Channel,
+    /// The address of the other side, if it connected to us over TCP.
     peer: Option<SocketAddr>,
 }
 
 impl Wire {
-    /// That of a stream whose readiness is told, to the side of that address, if it connected to us.
-    pub(crate) fn new(stream: TcpStream, peer: Option<SocketAddr>) -> Self {
+    /// That of a stream whose readiness is told, to the side of that address, if it connected to us over TCP.
+    pub(crate) fn new(stream: Channel, peer: Option<SocketAddr>) -> Self {
         Wire { stream, peer }
     }
 
-    /// The address of the other side, if it connected to us.
+    /// The address of the other side, if it connected to us over TCP.
     pub fn peer(&self) -> Option<SocketAddr> {
         self.peer
     }
 
     /// What becomes ready at it is told by that token from now on. Answers whether the system does that.
     pub(crate) fn tell_by(&mut self, registry: &Registry, token: Token) -> bool {
-        let interests = Interest::READABLE | Interest::WRITABLE;
-        registry
-            .reregister(&mut self.stream, token, interests)
-            .is_ok()
+        self.stream.reregister(registry, token).is_ok()
     }
 }
 
@@ -62,8 +59,7 @@ impl Stream for Wire {
     }
 
     fn peek(&self) -> Presence {
-        let mut first = [0];
-        match self.stream.peek(&mut first) {
+        match self.stream.peek() {
             Ok(0) => Presence::Over,
             Ok(_) => Presence::Octets,
             Err(error) if error.kind() == ErrorKind::WouldBlock => Presence::Later,
@@ -74,6 +70,6 @@ impl Stream for Wire {
 
     fn end(&mut self) {
         // Where the other side has gone, nobody waits for the end.
-        let _ = self.stream.shutdown(Shutdown::Write);
+        let _ = self.stream.end();
     }
 }
