@@ -23,16 +23,35 @@ pub(crate) fn first_line(head: &[u8]) -> &[u8] {
     }
 }
 
-/// How many octets a head has, of those with which a message begins.
-pub(crate) fn head_len(text: &[u8]) -> usize {
+/// What stands in the head of a reply.
+#[derive(Clone, Copy)]
+pub struct ReplyHead<'a> {
+    /// The three digits of its status.
+    pub status: &'a [u8],
+    /// The value of its last Cache-Status; empty where there is none.
+    pub mark: &'a [u8],
+    /// How many octets it has.
+    pub len: usize,
+}
+
+/// What stands in the head of a reply that begins with it.
+pub fn reply_head(text: &[u8]) -> ReplyHead<'_> {
+    let mut mark: &[u8] = b"";
     let mut rest = text;
     'lines: for _ in 0..MOST_LINES {
-        match next_line(rest) {
-            Some((_, behind)) => rest = behind,
-            None => break,
+        let Some((line, behind)) = next_line(rest) else {
+            break;
+        };
+        if let Some(found) = value_in(line, b"cache-status") {
+            mark = found;
         }
+        rest = behind;
     }
-    text.len().saturating_sub(rest.len()).saturating_add(2)
+    ReplyHead {
+        status: text.get(9..12).unwrap_or(b""),
+        mark,
+        len: text.len().saturating_sub(rest.len()).saturating_add(2),
+    }
 }
 
 /// What a request tells of where it comes from.
@@ -63,29 +82,12 @@ pub(crate) fn sender_in(head: &[u8]) -> Sender<'_> {
     sender
 }
 
-/// The value of the last line of that name in a head, which is written in small letters; empty where there is none.
-pub(crate) fn value_of<'a>(head: &'a [u8], name: &[u8]) -> &'a [u8] {
-    let mut value: &[u8] = b"";
-    let mut rest = head;
-    'lines: for _ in 0..MOST_LINES {
-        let Some((line, behind)) = next_line(rest) else {
-            return value;
-        };
-        if let Some(found) = value_in(line, name) {
-            value = found;
-        }
-        rest = behind;
-    }
-    value
-}
-
-/// The value of the last Cache-Status of a reply's head, empty where there is none, and the three digits of its status.
-pub fn mark_and_status(head: &[u8]) -> (&[u8], &[u8]) {
-    (value_of(head, b"cache-status"), head.get(9..12).unwrap_or(b""))
-}
-
-/// The value of a line, if it has that name.
+/// The value of a line, if it has that name, which is written in small letters.
 fn value_in<'a>(line: &'a [u8], name: &[u8]) -> Option<&'a [u8]> {
+    // Most lines have another first letter.
+    if line.first()?.to_ascii_lowercase() != *name.first()? {
+        return None;
+    }
     let (first, rest) = line.split_at_checked(name.len())?;
     if !first.eq_ignore_ascii_case(name) {
         return None;

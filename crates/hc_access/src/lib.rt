@@ -13,5 +13,5 @@ mod visits;
 mod writer;
 
 pub use access_log::{AccessLog, Target};
-pub use heads::mark_and_status;
+pub use heads::{ReplyHead, reply_head};
 pub use visits::Visited;

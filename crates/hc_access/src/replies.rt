@@ -5,7 +5,7 @@ ghost use Rattle.hc_access.specs.Accounts.{Accounts, DraftsOne, replies_in, repl
 
 use crate::asked::Asked;
 use crate::drafts::Draft;
-use crate::heads::{first_line, head_len, mark_and_status, sender_in};
+use crate::heads::{first_line, reply_head, sender_in};
 use crate::line::{Replied, front_of, push_time};
 use crate::lines::Lines;
 use crate::visits::{Answered, Visited, Visits};
@@ -305,19 +305,18 @@ fn asked_of(alloc: Global, message: &MessageText) -> Result<Asked, AllocError> {
 /// What a reply tells, and why. Its request has a record, or hasn't.
 fn replied_by<'a>(reply: Given<'a>, is_recorded: bool) -> Replied<'a> {
     let (front, _) = reply.text.parts();
-    let head = front.as_slice();
-    let (mark, status) = mark_and_status(head);
+    let head = reply_head(front.as_slice());
     let trouble: &'static [u8] = if !is_recorded {
         refused_for(reply.incidents, reply.client)
-    } else if is_own(status, mark) {
+    } else if is_own(head.status, head.mark) {
         failed_for(reply.incidents)
     } else {
         b""
     };
     Replied {
-        status,
-        size: reply.text.len().saturating_sub(head_len(head)) as u64,
-        mark,
+        status: head.status,
+        size: reply.text.len().saturating_sub(head.len) as u64,
+        mark: head.mark,
         trouble,
     }
 }

@@ -12,7 +12,7 @@ pub(crate) const PAGE: &str = r#"<!doctype html>
 :root{--bg:#fff;--fg:#1b1d1f;--dim:#5c6166;--line:#d9dce0;--ink:#2b6cb0;--bad:#b3140f;--warn:#8f4e00}
 @media(prefers-color-scheme:dark){:root{--bg:#15171a;--fg:#e4e6e8;--dim:#9ba1a8;--line:#33383e;--ink:#6ba6e8;--bad:#ff8077;--warn:#e0a040}}
 *{box-sizing:border-box}
-body{font:15px/1.45 system-ui,sans-serif;max-width:60rem;margin:0 auto;padding:1.25rem;color:var(--fg);background:var(--bg);overflow-wrap:anywhere}
+body{font:15px/1.45 system-ui,sans-serif;max-width:60rem;margin:0 auto;padding:1.25rem;color:var(--fg);background:var(--bg);overflow-wrap:break-word}
 h1{font-size:1.2rem;margin:0}h2{font-size:.93rem;margin:1.5rem 0 .2rem}p{margin:.15rem 0;color:var(--dim);font-size:.9rem}
 #state{font-weight:400}.stops{color:var(--warn)}.lost{color:var(--bad)}
 .top{display:grid;grid-template-columns:repeat(auto-fit,minmax(9.5rem,1fr));gap:1rem 1.75rem;margin-top:1.1rem}
@@ -22,7 +22,7 @@ h1{font-size:1.2rem;margin:0}h2{font-size:.93rem;margin:1.5rem 0 .2rem}p{margin:
 table{border-collapse:collapse;width:100%;font-size:.93rem}
 td,th{font-weight:400;padding:.18rem 0;border-bottom:1px solid var(--line);text-align:left}
 td{text-align:right;font-variant-numeric:tabular-nums;white-space:nowrap;padding-left:.75rem}
-td.of{color:var(--dim)}td.m{width:26%}meter{width:100%;height:.6rem;display:block}.z{color:var(--dim)}
+td.of{color:var(--dim)}td.m{width:22%}meter{width:100%;height:.6rem;display:block}.z{color:var(--dim)}
 polyline{fill:none;stroke:var(--ink);stroke-width:1.5;vector-effect:non-scaling-stroke}a{color:var(--ink)}
 </style>
 </head>
@@ -128,10 +128,10 @@ const draw = m => {
     add(part, 'span', since);
   }
   at('cols').textContent = '';
-  let table = section('Bounds');
-  for (const [name, key, text] of [['stored', 'stored_bytes', bytes], ['targets', 'stored_targets', number], ['held beside the store', 'held_bytes', bytes], ['clients', 'clients', number]])
+  let table = section('Store and bounds');
+  for (const [name, key, text] of [['stored', 'stored_bytes', bytes], ['targets', 'stored_targets', number], ['held beside it', 'held_bytes', bytes], ['clients', 'clients', number]])
     bound(table, name, one(m, key), one(m, key + '_limit'), text);
-  row(table, 'targets dropped for room', one(m, 'evictions_total'));
+  row(table, 'dropped for room', one(m, 'evictions_total'), 'targets');
   table = section('Replies, by mark');
   const was = marks(before);
   for (const [mark, v] of Object.entries(marks(m))) row(table, mark, v, first ? '' : number((v - (was[mark] || 0)) / seconds) + '/s');

@@ -1,6 +1,6 @@
 //! What is told to those who watch over a proxy.
 
-use hc_access::mark_and_status;
+use hc_access::reply_head;
 use hc_crowd::{Counted, Crowd, Limits, Whose, World};
 use hc_events::Happening;
 use hc_flow::Stream;
@@ -98,8 +98,10 @@ impl<'a> Counting<'a> {
         match action {
             Action::ToClient(_, text) => {
                 let (front, _) = text.parts();
-                let (mark, status) = mark_and_status(front.as_slice());
-                self.figures.replies.count(way_of(mark), class_of(status));
+                let head = reply_head(front.as_slice());
+                self.figures
+                    .replies
+                    .count(way_of(head.mark), class_of(head.status));
                 self.figures.to_clients = grown(self.figures.to_clients, text.len());
             }
             Action::Forward(_, text) => {
