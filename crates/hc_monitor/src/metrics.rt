@@ -63,8 +63,7 @@ fn push_replies(ways: &Ways, out: &mut Vec<u8>) -> Result<(), AllocError> {
 }
 
 /// Puts the numbers of all ways at the end.
-fn push_ways(ways: &Ways, out: &mut Vec<u8>) -> Result<(), AllocError>
-{
+fn push_ways(ways: &Ways, out: &mut Vec<u8>) -> Result<(), AllocError> {
     push_mark("hit", ways.hit, out)?;
     push_mark("stale-hit", ways.stale_hit, out)?;
     push_mark("collapsed", ways.collapsed, out)?;
@@ -78,8 +77,7 @@ fn push_ways(ways: &Ways, out: &mut Vec<u8>) -> Result<(), AllocError>
 }
 
 /// Puts the numbers of one way at the end, by class.
-fn push_mark(mark: &str, classes: Classes, out: &mut Vec<u8>) -> Result<(), AllocError>
-{
+fn push_mark(mark: &str, classes: Classes, out: &mut Vec<u8>) -> Result<(), AllocError> {
     push_sample(mark, "2xx", classes.successful, out)?;
     push_sample(mark, "3xx", classes.redirection, out)?;
     push_sample(mark, "4xx", classes.client_error, out)?;
@@ -94,7 +92,10 @@ fn push_octets(figures: &Figures, out: &mut Vec<u8>) -> Result<(), AllocError> {
     push_labelled(received, "from", "clients", figures.from_clients, out)?;
     push_labelled(received, "from", "origin", figures.from_origin, out)?;
     let sent = "hcache_sent_bytes_total";
-    push_family(counter(sent, "Bytes that were given out, by receiver."), out)?;
+    push_family(
+        counter(sent, "Bytes that were given out, by receiver."),
+        out,
+    )?;
     push_labelled(sent, "to", "clients", figures.to_clients, out)?;
     push_labelled(sent, "to", "origin", figures.to_origin, out)?;
     let forwards = counter("hcache_forwards_total", "Requests that went to the origin.");
@@ -147,7 +148,10 @@ fn push_waiting(stand: &Stand, out: &mut Vec<u8>) -> Result<(), AllocError> {
 
 /// What is stored and held.
 fn push_store(stand: &Stand, out: &mut Vec<u8>) -> Result<(), AllocError> {
-    let targets = gauge("hcache_stored_targets", "Targets of which responses are stored.");
+    let targets = gauge(
+        "hcache_stored_targets",
+        "Targets of which responses are stored.",
+    );
     push_single(targets, stand.targets, out)?;
     let most = gauge("hcache_stored_targets_limit", "How many there may be.");
     push_single(most, stand.most_targets, out)?;
@@ -167,13 +171,12 @@ fn push_store(stand: &Stand, out: &mut Vec<u8>) -> Result<(), AllocError> {
 }
 
 /// What befell messages or links, by why.
-fn push_kinds(
-    befell: Befell,
-    kinds: &[Kind<'_>],
-    out: &mut Vec<u8>,
-) -> Result<(), AllocError> {
+fn push_kinds(befell: Befell, kinds: &[Kind<'_>], out: &mut Vec<u8>) -> Result<(), AllocError> {
     let family = match befell {
-        Befell::Refused => counter("hcache_refused_total", "Requests that were refused, by why."),
+        Befell::Refused => counter(
+            "hcache_refused_total",
+            "Requests that were refused, by why.",
+        ),
         Befell::Failed => counter(
             "hcache_failed_responses_total",
             "Responses that failed or didn't come, by why.",

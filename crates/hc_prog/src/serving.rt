@@ -11,8 +11,8 @@ use hc_command::Server;
 use hc_crowd::{Limits, Patience};
 use hc_service::CoreSettings;
 use hc_serving::{
-    AccessLog, Board, Claim, Health, LogFile, LogTo, Proxy, RecordTo, ServeFault, Service, System, Target,
-    Unrecordable, serve, serve_proxy,
+    AccessLog, Board, Claim, Health, LogFile, LogTo, Proxy, RecordTo, ServeFault, Service, System,
+    Target, Unrecordable, serve, serve_proxy,
 };
 use std::alloc::AllocError;
 use std::io;

@@ -202,7 +202,9 @@ fn clients_in<S: Stream + Drop, A: Awaiting>(peers: &Peers<S>, cache: &A) -> Cli
         held: 0,
     };
     'clients: for (number, client) in peers.clients.iter() {
-        stand.awaiting = stand.awaiting.saturating_add(u64::from(cache.awaits(*number)));
+        stand.awaiting = stand
+            .awaiting
+            .saturating_add(u64::from(cache.awaits(*number)));
         stand.held = grown(stand.held, client.weight());
         stand.held = grown(stand.held, cache.held(Receiver::Client(*number)));
     }

@@ -193,10 +193,7 @@ where
 }
 
 /// Sockets to which clients connect, and the addresses of the origin.
-fn new_sockets<'a, R>(
-    system: System<'a, R>,
-    proxy: Proxy<'a>,
-) -> Result<Sockets<'a, R>, ServeFault>
+fn new_sockets<'a, R>(system: System<'a, R>, proxy: Proxy<'a>) -> Result<Sockets<'a, R>, ServeFault>
 where
     R: Net + Files + Clock + AllocGlobal,
     ensures { IfErr result IsOfMaking }

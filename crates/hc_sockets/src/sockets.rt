@@ -234,12 +234,7 @@ impl<'a, R: Net + Files + Clock> Sockets<'a, R> {
     }
 
     /// What becomes ready at a stream is told from now on. None, where the system refuses that.
-    fn wired(
-        &self,
-        mut stream: Channel,
-        source: Source,
-        peer: Option<SocketAddr>,
-    ) -> Option<Wire> {
+    fn wired(&self, mut stream: Channel, source: Source, peer: Option<SocketAddr>) -> Option<Wire> {
         stream.delay_nothing();
         let token = source.token()?;
         stream.register(self.poll.registry(), token).ok()?;

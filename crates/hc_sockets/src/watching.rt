@@ -160,7 +160,10 @@ impl Watching {
 
     /// Writes of the reply what the link takes.
     fn write(&mut self) -> Turn {
-        match self.stream.write(&self.reply[self.sent.min(self.reply.len())..]) {
+        match self
+            .stream
+            .write(&self.reply[self.sent.min(self.reply.len())..])
+        {
             Ok(count) => {
                 self.sent = self.sent.saturating_add(count);
                 self.end_if_sent();
