@@ -2,9 +2,9 @@
 use Rattle.std.specs.Prelude.{◌≡◌, ◌⊎◌, Bool, true, false, List, [], ◌∷◌, ◌++◌, Some, codes, if◌then◌else◌, is_some}
 use Rattle.std.specs.Str.{bytes_eq}
 use Rattle.clap.specs.Words.{Rule, Text, new_rule}
-use Rattle.clap.specs.declared.builder.action.ArgAction.TheVariants.{SetTrue}
+use Rattle.clap.specs.declared.builder.action.ArgAction.TheVariants.{Append, SetTrue}
 use Rattle.hc_options.specs.declared.rows.Kind.{Kind}
-use Rattle.hc_options.specs.declared.rows.Kind.TheVariants.{Argument, Flag, Valued}
+use Rattle.hc_options.specs.declared.rows.Kind.TheVariants.{Argument, Flag, Repeated, Valued}
 use Rattle.hc_options.specs.declared.rows.Row.{Row}
 use Rattle.hc_options.specs.declared.rows.Takes.{Takes}
 use Rattle.hc_options.specs.declared.rows.Takes.TheVariants.{AnyText, FileName, Count, Number, Size, AllowedWords, Names, VaryNames, CacheName, Positions, OriginAddress}
@@ -35,6 +35,10 @@ flag_rule name = record (new_rule name) { long = Some name; action = Some SetTru
 abbrev pub valued_rule : Text → Bool → Rule
 valued_rule name required = record (new_rule name) { long = Some name; value_names = 1; required = required }
 
+-- and one with as many as it is given
+abbrev pub repeated_rule : Text → Bool → Rule
+repeated_rule name required = record (valued_rule name required) { action = Some Append }
+
 abbrev pub argument_rule : Text → Bool → Rule
 argument_rule name required = record (new_rule name) { required = required }
 
@@ -42,6 +46,7 @@ abbrev pub kind_rule : Kind → Text → Bool → Rule
 kind_rule Argument name required = argument_rule name required
 kind_rule Flag name required = flag_rule name
 kind_rule Valued name required = valued_rule name required
+kind_rule Repeated name required = repeated_rule name required
 
 abbrev pub rule_by : Entry → Rule
 rule_by entry = kind_rule entry.kind entry.name entry.required

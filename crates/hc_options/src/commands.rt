@@ -118,5 +118,10 @@ fn argument<'a>(alloc: Global, row: &Row) -> Arg<'a>
             .long(row.name)
             .value_name(row.value)
             .required(row.required),
+        Kind::Repeated => bare
+            .long(row.name)
+            .value_name(row.value)
+            .required(row.required)
+            .action(ArgAction::Append),
     }
 }

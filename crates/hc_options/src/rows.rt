@@ -11,6 +11,8 @@ pub enum Kind {
     Flag,
     /// By a word that begins with two hyphens, and a value.
     Valued,
+    /// The same, as often as there are values.
+    Repeated,
 }
 
 /// Which values a row takes.
@@ -102,7 +104,7 @@ impl Row {
         match (self.kind, self.required) {
             (Kind::Argument, true) => { format!(in alloc; "invalid value for '<{name}>': {why}") }
             (Kind::Argument, false) => { format!(in alloc; "invalid value for '[{name}]': {why}") }
-            (Kind::Flag | Kind::Valued, _) => {
+            (Kind::Flag | Kind::Valued | Kind::Repeated, _) => {
                 format!(in alloc; "invalid value for '--{name} <{value}>': {why}")
             }
         }
