@@ -7,7 +7,7 @@ use hc_arguments::{Order, parsed};
 use hc_auditing::{audit, printed, shown};
 use hc_cases::Unanswered;
 use hc_command::{
-    BaselineTrouble, Beside, ReportForm, baseline_of, convert, explain, replay, report,
+    BaselineTrouble, Beside, ReportForm, baseline_of, convert, explain, replay, report, report_in_html,
 };
 use hc_figures::Baseline;
 use hc_options::audit_asked;
@@ -71,6 +71,10 @@ fn done<W: Write, E: Write>(
 ) -> Result<u8, Unanswered> {
     match order {
         Order::Audit { file, terms } => Ok(audit(alloc, terms, file, input, output, faults)),
+        Order::Report { file, terms, form } if form.html => {
+            let mut again = input.again();
+            Ok(report_in_html(alloc, terms, file, input, &mut again, output, faults))
+        }
         Order::Report { file, terms, form } => match known(alloc, form.baseline) {
             Ok(baseline) => {
                 let wants_junit = form.junit.is_some();

@@ -50,6 +50,14 @@ impl<T: Drop> Firsts<T> {
     }
 }
 
+/// A target of a group, as it is shown.
+#[derive(Drop)]
+pub(crate) struct Named {
+    pub(crate) shown: String,
+    /// The position of the first of its replies in the group.
+    pub(crate) position: u64,
+}
+
 /// By how many seconds the replies of a group are off.
 #[derive(Clone, Copy)]
 pub(crate) struct Spread {
@@ -71,8 +79,8 @@ pub(crate) struct Group {
     /// How many there are, or the greatest number.
     pub(crate) count: u64,
     pub(crate) first: u64,
-    /// What they were asked for, each target once as it is shown, and how many were asked for another one.
-    pub(crate) targets: Firsts<String>,
+    /// What they were asked for, each target once, and how many were asked for another one.
+    pub(crate) targets: Firsts<Named>,
     pub(crate) spread: Option<Spread>,
 }
 
@@ -121,9 +129,9 @@ impl Group {
     }
 
     // Names a target of its replies.
-    fn name(&mut self, target: String) -> Result<(), AllocError> {
+    fn name(&mut self, target: Named) -> Result<(), AllocError> {
         for known in self.targets.kept.iter() {
-            if known.as_str() == target.as_str() {
+            if known.shown.as_str() == target.shown.as_str() {
                 return Ok(());
             }
         }
@@ -160,7 +168,11 @@ fn group_of(groups: &[Group], one: &Group) -> usize {
 }
 
 // Takes in a wrong reply, which is a group by itself, and its target: adds it to the group where it belongs, or begins one.
-fn add(groups: &mut Firsts<Group>, mut one: Group, target: String) -> Result<(), AllocError> {
+fn add(groups: &mut Firsts<Group>, mut one: Group, shown: String) -> Result<(), AllocError> {
+    let target = Named {
+        shown,
+        position: one.first,
+    };
     let place = group_of(groups.kept.as_slice(), &one);
     if place < groups.kept.len() {
         groups.kept[place].join(&one);

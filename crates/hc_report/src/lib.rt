@@ -6,6 +6,7 @@
 mod cases;
 mod counting;
 mod found;
+mod html;
 mod json;
 mod made;
 mod report;
@@ -14,5 +15,6 @@ mod text;
 mod tries;
 
 pub use counting::CountingReport;
+pub use html::{AskedAt, write_settings};
 pub use made::other_setting;
 pub use report::Report;

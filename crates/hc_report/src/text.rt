@@ -1,6 +1,6 @@
 //! The text of a report.
 
-use crate::found::{Firsts, Group, Suspect, unrecorded};
+use crate::found::{Firsts, Group, Named, Suspect, unrecorded};
 use crate::report::Report;
 use crate::tries::Helpful;
 use hc_figures::{NO_MARK, ReplyCounts};
@@ -171,11 +171,11 @@ fn say_group(group: &Group, widths: Widths, page: &mut Page) {
 }
 
 // Writes the first target, and how many more there are.
-fn say_targets(targets: &Firsts<String>, page: &mut Page) {
+pub(crate) fn say_targets(targets: &Firsts<Named>, page: &mut Page) {
     let Some((first, others)) = targets.kept.as_slice().split_first() else {
         return;
     };
-    page.words(first.as_str());
+    page.words(first.shown.as_str());
     let more = others.len() as u64;
     if targets.more != 0 {
         return page.count(" and over ", more, " more");
