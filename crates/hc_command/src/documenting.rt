@@ -91,9 +91,7 @@ fn document_of<S: Read>(
     ensures { IfOk result (λ text. IsDocument subject.now.line.now (string_bytes text)) }
 {
     let settings = subject.settings;
-    let (report, named) = naming.into_parts();
-    let lent = settings.allowed.default_lifetime;
-    let mut retelling = Retelling::new(alloc, &report, named, lent)?;
+    let mut retelling = naming.into_retelling(settings.allowed.default_lifetime)?;
     surveyed(alloc, settings.copy(alloc)?, again, &mut retelling)?;
-    Ok(document(alloc, subject, &report, retelling)?)
+    Ok(document(alloc, subject, &retelling)?)
 }

@@ -67,8 +67,9 @@ pub(crate) struct Spread {
 
 /// The wrong replies that have a reason in common, and the words for what is wrong in them.
 #[derive(Drop)]
-pub(crate) struct Group {
-    pub(crate) reason: Reason,
+pub struct Group {
+    /// The reason.
+    pub reason: Reason,
     /// A word for what in them is.
     pub(crate) kind: &'static str,
     what: String,
@@ -77,8 +78,9 @@ pub(crate) struct Group {
     /// Whether no response of their targets is recorded.
     pub(crate) is_unrecorded: bool,
     /// How many there are, or the greatest number.
-    pub(crate) count: u64,
-    pub(crate) first: u64,
+    pub count: u64,
+    /// The position of the first of them.
+    pub first: u64,
     /// What they were asked for, each target once, and how many were asked for another one.
     pub(crate) targets: Firsts<Named>,
     pub(crate) spread: Option<Spread>,
@@ -144,7 +146,7 @@ impl Group {
     }
 
     /// Writes what is wrong in its replies, and by how much.
-    pub(crate) fn say_what(&self, page: &mut Page) {
+    pub fn say_what(&self, page: &mut Page) {
         page.words(self.what.as_str());
         let Some(spread) = self.spread else {
             return;
@@ -154,6 +156,22 @@ impl Group {
             page.count(" to ", spread.greatest, "");
         }
         page.words(" s");
+    }
+
+    /// Writes the first target, and how many more there are.
+    pub fn say_targets(&self, page: &mut Page) {
+        let targets = &self.targets;
+        let Some((first, others)) = targets.kept.as_slice().split_first() else {
+            return;
+        };
+        page.words(first.shown.as_str());
+        let more = others.len() as u64;
+        if targets.more != 0 {
+            return page.count(" and over ", more, " more");
+        }
+        if more != 0 {
+            page.count(" and ", more, " more");
+        }
     }
 }
 
@@ -194,11 +212,19 @@ pub(crate) fn unrecorded(groups: &[Group]) -> u64 {
 
 /// A field that was dropped or changed, which is rather a fault than anything to be ignored.
 #[derive(Drop)]
-pub(crate) struct Suspect {
+pub struct Suspect {
     pub(crate) name: Octets,
     pub(crate) change: Change,
     /// In how many wrong replies, or the greatest number.
-    pub(crate) count: u64,
+    pub count: u64,
+}
+
+impl Suspect {
+    /// Writes what became of it, and its name.
+    pub fn say_what(&self, page: &mut Page) {
+        page.words(self.change.word());
+        page.said_octets(" ", self.name.as_slice(), "");
+    }
 }
 
 /// What is found of the wrong replies.

@@ -5,8 +5,8 @@
 
 mod cases;
 mod counting;
+mod explained;
 mod found;
-mod html;
 mod json;
 mod made;
 mod report;
@@ -15,6 +15,7 @@ mod text;
 mod tries;
 
 pub use counting::CountingReport;
-pub use html::{AskedAt, write_settings};
+pub use found::{Group, Suspect};
 pub use made::other_setting;
 pub use report::Report;
+pub use tries::Helpful;

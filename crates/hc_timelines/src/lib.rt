@@ -3,6 +3,9 @@
 #![tactic(auto)]
 
 mod changes;
+mod groups;
+mod heading;
+mod judged_by;
 mod laws;
 mod naming;
 mod retelling;

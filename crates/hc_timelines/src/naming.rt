@@ -5,6 +5,7 @@ ghost use Rattle.hc_history.specs.declared.wrong.WrongReply.{WrongReply};
 ghost use Rattle.hc_report.specs.Kinds.{AreShownIn};
 ghost use Rattle.hc_report.specs.Told.{TellsOf};
 
+use crate::retelling::Retelling;
 use hc_audit::{JudgedReply, PassedRecord, Witness};
 use hc_history::{Finding, Settings, WrongReply};
 use hc_index::Index;
@@ -13,11 +14,22 @@ use hc_why::{FoundReply, ReplyAt};
 use std::alloc::{AllocError, Global};
 
 /// A report that keeps of which wrong replies more may be told.
-#[derive(Drop)]
 pub struct NamingReport {
     alloc: Global,
     report: Report,
     named: Vec<FoundReply>,
+}
+
+impl Drop for NamingReport {
+    fn drop(self) {
+        let NamingReport {
+            alloc: _,
+            report,
+            named,
+        } = self;
+        drop(report);
+        drop(named);
+    }
 }
 
 impl<I: Index> Witness<I> for NamingReport {
@@ -58,14 +70,17 @@ impl NamingReport {
         self.report.first_wrong()
     }
 
-    /// The report, and the replies that it named.
-    pub fn into_parts(self) -> (Report, Vec<FoundReply>) {
+    /// What tells of the replies that it named, once the recording is read again; that lifetime is lent to what states none,
+    /// if one is.
+    pub fn into_retelling(self, lent: Option<u32>) -> Result<Retelling, AllocError> {
         let NamingReport {
-            alloc: _,
+            alloc,
             report,
             named,
         } = self;
-        (report, named)
+        let mut retelling = Retelling::new(alloc, report, lent);
+        retelling.begin_all(named)?;
+        Ok(retelling)
     }
 
     // Keeps a wrong reply, if the report names it.

@@ -1,5 +1,6 @@
 //! The second reading of a recording, by which it is told why replies are wrong.
 
+use crate::groups::AskedAt;
 use crate::time_line::TimeLine;
 use hc_audit::{JudgedReply, PassedRecord, Witness};
 use hc_explain::{Explaining, Form};
@@ -7,19 +8,34 @@ use hc_head::{Target, same_target};
 use hc_history::Finding;
 use hc_html::{Class, Html, Tag};
 use hc_index::Index;
-use hc_report::{AskedAt, Report};
+use hc_report::Report;
 use hc_shown::Page;
 use hc_why::FoundReply;
 use std::alloc::{AllocError, Global};
 
 /// A witness that explains wrong replies, and draws the time lines of their targets.
-#[derive(Drop)]
 pub struct Retelling {
     alloc: Global,
     // The lifetime that is lent to what states none, if one is.
     lent: Option<u32>,
-    pub(crate) explained: Vec<Explaining>,
-    pub(crate) lines: Vec<TimeLine>,
+    pub(crate) report: Report,
+    explained: Vec<Explaining>,
+    lines: Vec<TimeLine>,
+}
+
+impl Drop for Retelling {
+    fn drop(self) {
+        let Retelling {
+            alloc: _,
+            lent: _,
+            report,
+            explained,
+            lines,
+        } = self;
+        drop(report);
+        drop(explained);
+        drop(lines);
+    }
 }
 
 impl<I: Index> Witness<I> for Retelling {
@@ -49,32 +65,32 @@ impl<I: Index> Witness<I> for Retelling {
 }
 
 impl Retelling {
-    /// Of those that a report explains of the replies that it named, nothing yet.
-    pub fn new(
-        alloc: Global,
-        report: &Report,
-        named: Vec<FoundReply>,
-        lent: Option<u32>,
-    ) -> Result<Self, AllocError> {
-        let mut retelling = Retelling {
+    /// Of no reply of that report yet.
+    pub(crate) fn new(alloc: Global, report: Report, lent: Option<u32>) -> Self {
+        Retelling {
             alloc,
             lent,
+            report,
             explained: Vec::new(alloc),
             lines: Vec::new(alloc),
-        };
+        }
+    }
+
+    /// Tells of those that the report explains of the replies that it named.
+    pub(crate) fn begin_all(&mut self, named: Vec<FoundReply>) -> Result<(), AllocError> {
         for found in named {
-            if report.explains(found.position) {
-                retelling.begin(found)?;
+            if self.report.explains(found.position) {
+                self.begin(found)?;
             }
         }
-        Ok(retelling)
+        Ok(())
     }
 
     // Tells of that reply, too.
     fn begin(&mut self, found: FoundReply) -> Result<(), AllocError> {
         self.begin_line(&found)?;
-        self.explained
-            .push(Explaining::new(self.alloc, found, Form::Text)?)?;
+        let explaining = Explaining::new(self.alloc, found, Form::Text)?;
+        self.explained.push(explaining)?;
         Ok(())
     }
 
@@ -101,20 +117,15 @@ impl Retelling {
         true
     }
 
-    /// Writes why the replies are wrong, each with what came before it for its target, of so many that are wrong.
-    pub(crate) fn write(self, wrong: u64, html: &mut Html) {
-        let Retelling {
-            alloc,
-            lent: _,
-            explained,
-            lines,
-        } = self;
+    /// Writes why the replies are wrong, each with what came before it for its target.
+    pub(crate) fn write(&self, html: &mut Html) {
+        let wrong = self.report.wrong();
         if wrong == 0 {
             return;
         }
         html.leaf(Tag::H2, Class::Plain, "Wrong replies, by target");
         html.begin(Tag::P, Class::Note);
-        let told = explained.len() as u64;
+        let told = self.explained.len() as u64;
         html.count(
             told,
             " wrong replies are explained here, the first of each group and target, and ",
@@ -125,8 +136,8 @@ impl Retelling {
         );
         html.words(LETTERS);
         html.end(Tag::P);
-        for line in lines {
-            write_line(alloc, line, explained.as_slice(), html);
+        for line in self.lines.iter() {
+            write_line(self.alloc, line, self.explained.as_slice(), html);
         }
     }
 
@@ -149,20 +160,18 @@ const LETTERS: &str =
     origin, x that none came, a reply is a, a client's request q, and one to the origin f.";
 
 // Writes the time line of a target, and why its replies are wrong.
-fn write_line(alloc: Global, line: TimeLine, explained: &[Explaining], html: &mut Html) {
+fn write_line(alloc: Global, line: &TimeLine, explained: &[Explaining], html: &mut Html) {
     html.begin(Tag::Details, Class::Target);
     html.begin(Tag::Summary, Class::Plain);
     let mut page = Page::new(alloc);
     page.target(&line.target);
-    html.begin(Tag::Code, Class::Plain);
-    html.made(page.into_text());
-    html.end(Tag::Code);
+    html.leaf_made(Tag::Code, Class::Plain, page.into_text());
     html.begin(Tag::Span, Class::Positions);
     write_places(&line.target, explained, html);
     html.end(Tag::Span);
     html.end(Tag::Summary);
-    let target = line.write(html);
-    write_explained(&target, explained, html);
+    line.write(html);
+    write_explained(&line.target, explained, html);
     html.end(Tag::Details);
 }
 

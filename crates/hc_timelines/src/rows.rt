@@ -10,10 +10,9 @@ use hc_html::{Class, Html, Tag};
 use hc_index::OpenForward;
 use hc_shown::{FieldOf, Page, RecordName, Teller};
 use hc_use::Forbids;
-use std::alloc::Global;
+use std::alloc::{AllocError, Global};
 
 /// What came, and what it made of what is stored.
-#[derive(Drop)]
 pub(crate) struct Row {
     pub(crate) named: RecordName,
     /// What it is, by which it is drawn.
@@ -25,6 +24,20 @@ pub(crate) struct Row {
     pub(crate) last: u64,
     /// The response that is given, if one is named.
     pub(crate) from: Option<u64>,
+}
+
+impl Drop for Row {
+    fn drop(self) {
+        let Row {
+            named: _,
+            class: _,
+            words,
+            more: _,
+            last: _,
+            from: _,
+        } = self;
+        drop(words);
+    }
 }
 
 impl Row {
@@ -41,32 +54,30 @@ impl Row {
     }
 
     /// Writes it.
-    pub(crate) fn write(self, alloc: Global, html: &mut Html) {
-        let Row {
-            named,
-            class,
-            words,
-            more,
-            last,
-            from: _,
-        } = self;
+    pub(crate) fn write(&self, alloc: Global, html: &mut Html) {
+        html.begin(Tag::Li, self.class);
         let mut place = Page::new(alloc);
-        place.record("", named);
-        let mut moment = Page::new(alloc);
-        moment.moment(named.moment);
-        html.begin(Tag::Li, class);
+        place.record("", self.named);
         html.leaf_made(Tag::Span, Class::Plain, place.into_text());
+        let mut moment = Page::new(alloc);
+        moment.moment(self.named.moment);
         html.leaf_made(Tag::Time, Class::Plain, moment.into_text());
         html.begin(Tag::Span, Class::Plain);
-        html.made(words.into_text());
-        if more != 0 {
+        html.made(copied(alloc, &self.words));
+        if self.more != 0 {
             html.words(", and ");
-            html.count(more, " such hits more, up to ");
-            html.count(last, "");
+            html.count(self.more, " such hits more, up to ");
+            html.count(self.last, "");
         }
         html.end(Tag::Span);
         html.end(Tag::Li);
     }
+}
+
+fn copied(alloc: Global, page: &Page) -> Result<String, AllocError> {
+    let mut text = String::new(alloc);
+    page.onto(&mut text)?;
+    Ok(text)
 }
 
 /// Says what a response is: its status, to which method, and what it says of its lifetime.

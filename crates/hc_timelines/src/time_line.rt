@@ -36,7 +36,6 @@ struct Lane {
 }
 
 /// What came for a target, up to the last of its replies that is explained.
-#[derive(Drop)]
 pub(crate) struct TimeLine {
     alloc: Global,
     pub(crate) target: Target,
@@ -49,6 +48,24 @@ pub(crate) struct TimeLine {
     earlier: u64,
     // The position of the response of the last row, as long as no index is known that has noted it.
     unsettled: Option<u64>,
+}
+
+impl Drop for TimeLine {
+    fn drop(self) {
+        let TimeLine {
+            alloc: _,
+            target,
+            lent: _,
+            last: _,
+            lanes,
+            rows,
+            earlier: _,
+            unsettled: _,
+        } = self;
+        drop(target);
+        drop(lanes);
+        drop(rows);
+    }
 }
 
 impl TimeLine {
@@ -230,29 +247,18 @@ impl TimeLine {
         }
     }
 
-    /// Writes it, and gives its target back.
-    pub(crate) fn write(self, html: &mut Html) -> Target {
-        let TimeLine {
-            alloc,
-            target,
-            lent: _,
-            last: _,
-            lanes: _,
-            rows,
-            earlier,
-            unsettled: _,
-        } = self;
+    /// Writes it.
+    pub(crate) fn write(&self, html: &mut Html) {
         html.begin(Tag::Ol, Class::Log);
-        if earlier != 0 {
+        if self.earlier != 0 {
             html.begin(Tag::Li, Class::Note);
-            html.count(earlier, " earlier rows are left out");
+            html.count(self.earlier, " earlier rows are left out");
             html.end(Tag::Li);
         }
-        for row in rows {
-            row.write(alloc, html);
+        for row in self.rows.iter() {
+            row.write(self.alloc, html);
         }
         html.end(Tag::Ol);
-        target
     }
 }
 

@@ -3,10 +3,12 @@
 ghost use Rattle.std.specs.Prelude.{IfOk, string_bytes};
 ghost use Rattle.hc_html.specs.Marked.{IsDocument};
 
+use crate::groups::write_wrongs;
+use crate::heading::write_front;
+use crate::judged_by::write_settings;
 use crate::retelling::Retelling;
 use hc_history::{Counts, Ending, Settings};
 use hc_html::{Class, Html, Tag};
-use hc_report::{Report, write_settings};
 use std::alloc::{AllocError, Global};
 
 /// What a document is about.
@@ -28,19 +30,36 @@ pub struct Subject<'a> {
 pub fn document(
     alloc: Global,
     subject: &Subject<'_>,
-    report: &Report,
-    retelling: Retelling,
+    retelling: &Retelling,
 ) -> Result<String, AllocError>
     ensures { IfOk result (λ text. IsDocument subject.now.line.now (string_bytes text)) }
 {
-    let asked = retelling.asked()?;
     let mut html = Html::new(alloc);
-    report.write_front(subject.name, subject.ending, subject.counts, &mut html);
+    write_all(alloc, subject, retelling, &mut html)?;
+    html.into_document(subject.line)
+}
+
+fn write_all(
+    alloc: Global,
+    subject: &Subject<'_>,
+    retelling: &Retelling,
+    html: &mut Html,
+) -> Result<(), AllocError> {
+    let report = &retelling.report;
+    write_front(
+        alloc,
+        subject.name,
+        report,
+        subject.ending,
+        subject.counts,
+        html,
+    );
     html.begin(Tag::Main, Class::Plain);
-    write_settings(alloc, subject.settings, &mut html);
-    report.write_groups(asked.as_slice(), &mut html)?;
-    retelling.write(report.wrong(), &mut html);
+    write_settings(alloc, subject.settings, html);
+    let asked = retelling.asked()?;
+    write_wrongs(alloc, report, asked.as_slice(), html)?;
+    retelling.write(html);
     html.end(Tag::Main);
     html.words("\n");
-    html.into_document(subject.line)
+    Ok(())
 }
