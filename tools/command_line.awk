@@ -409,10 +409,19 @@ function check_values(file,    line, parts, name) {
         if (line ~ /^#/ || split(line, parts, " ") < 2) continue
         name = parts[1]
         if (parts[2] == "needs") { check_need(name, parts[3]); continue }
+        if (parts[2] == "alone") { check_alone(name, line); continue }
         if (is_used(name) && !is_right(parts[2], value[name], parts[3], parts[4]))
             refuse("invalid value for '" shown(asked, name) "': " fault_of(parts[2], parts[3], parts[4]),
                 plain_usage(asked))
     }
+}
+
+# Refuses an option that is given with one of those that it goes without. The last one goes with another.
+function check_alone(name, line,    parts, count, i, text) {
+    count = split(line, parts, " ")
+    for (i = 3; i < count; i++) text = text (i == 3 ? "" : i == count - 1 ? " and " : ", ") "--" parts[i]
+    for (i = 3; i <= count; i++)
+        if (is_used(name) && is_used(parts[i])) refuse("--" name " goes without " text, plain_usage(asked))
 }
 
 # Refuses an option that is given without the one that it needs.

@@ -146,7 +146,7 @@ file_named (Some file) = cond (bytes_eq file (codes "-")) None (Some file)
 abbrev task_from : Command → (Text → Option Text) → Option Task
 task_from Audits value = option_map (λ p. ToAudit p.0 p.1) (both (value (codes "FILE")) (audit_terms_from value))
 task_from Reports value =
-    option_map (λ p. ToReport p.0 p.1 record { json = flag_by (value (codes "json")); baseline = value (codes "baseline"); strict = flag_by (value (codes "baseline-strict")); annotates = flag_by (value (codes "annotations")); junit = value (codes "junit") })
+    option_map (λ p. ToReport p.0 p.1 record { json = flag_by (value (codes "json")); baseline = value (codes "baseline"); strict = flag_by (value (codes "baseline-strict")); annotates = flag_by (value (codes "annotations")); junit = value (codes "junit"); html = flag_by (value (codes "html")) })
     (both (value (codes "FILE")) (audit_terms_from value))
 task_from Explains value = option_map (λ p. ToExplain p.0 record { position = p.1.0; settings = p.1.1; json = flag_by (value (codes "json")) })
     (both (file_named (value (codes "FILE"))) (both (number_by (Number 1 greatest_number) (value (codes "POSITION"))) (settings_from value)))
@@ -234,7 +234,7 @@ values_give value (ToAudit file terms) a =
     λ i. option_map (λ p. ToAudit p.0 p.1) (both (a.file_is i) (set i))
 values_give value (ToReport file terms form) a =
     let set = audit_terms_given value terms a.terms_are in
-    λ i. option_map (λ p. ToReport p.0 p.1 record { json = a.json_is i; baseline = a.baseline_is i; strict = a.strict_is i; annotates = a.annotates_is i; junit = a.junit_is i }) (both (a.file_is i) (set i))
+    λ i. option_map (λ p. ToReport p.0 p.1 record { json = a.json_is i; baseline = a.baseline_is i; strict = a.strict_is i; annotates = a.annotates_is i; junit = a.junit_is i; html = a.html_is i }) (both (a.file_is i) (set i))
 values_give value (ToExplain file terms) a =
     let set = settings_given value terms.settings a.settings_are in
     let named = ap file_named a.file_is ∙ ap (λ b. cond b None (Some file)) a.file_has_name in
@@ -417,7 +417,7 @@ values_fine value (ToReport file asked form) a = (
   there taken_by taken_by_judges (value (codes "FILE")) file a.file_is,
   appended taken_by value terms reporting (terms_fine taken_by taken_by_judges value asked a.terms_are) (
     any_fine taken_by taken_by_judges (value (codes "json")),
-    (any_fine taken_by taken_by_judges (value (codes "baseline")), (any_fine taken_by taken_by_judges (value (codes "baseline-strict")), (any_fine taken_by taken_by_judges (value (codes "junit")), (any_fine taken_by taken_by_judges (value (codes "annotations")), tt)))),
+    (any_fine taken_by taken_by_judges (value (codes "baseline")), (any_fine taken_by taken_by_judges (value (codes "baseline-strict")), (any_fine taken_by taken_by_judges (value (codes "junit")), (any_fine taken_by taken_by_judges (value (codes "annotations")), (any_fine taken_by taken_by_judges (value (codes "html")), tt))))),
   ),
 )
 values_fine value (ToExplain file terms) a = (
@@ -685,6 +685,10 @@ module _ (name file : Text) (h : IsNoFlag file) where
   unfolding clap_on_literals
   no_junit = rw (h.dashes, h.long, h.short) refl
 
+  no_html : flag_by (value_in (subcommand_of hcache (name ∷ codes "report" ∷ file ∷ [])) (codes "html")) ≡ false
+  unfolding clap_on_literals
+  no_html = rw (h.dashes, h.long, h.short) refl
+
   is_report : command_in (subcommand_of hcache (name ∷ codes "report" ∷ file ∷ [])) ≡ Some Reports
   unfolding clap_on_literals
   is_report = refl
@@ -753,6 +757,7 @@ report_words name file is = let h = no_flag file is in record {
       strict_is = not_strict name file h;
       annotates_is = not_annotated name file h;
       junit_is = no_junit name file h;
+      html_is = no_html name file h;
     },
   );
   no_fault = no_report_fault name file h;

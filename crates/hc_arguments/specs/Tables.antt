@@ -61,7 +61,7 @@ abbrev pub explaining_form : List Entry
 explaining_form = flag (codes "json") ∷ []
 
 abbrev pub reporting : List Entry
-reporting = flag (codes "json") ∷ option (codes "baseline") AnyText ∷ flag (codes "baseline-strict") ∷ option (codes "junit") AnyText ∷ flag (codes "annotations") ∷ []
+reporting = flag (codes "json") ∷ option (codes "baseline") AnyText ∷ flag (codes "baseline-strict") ∷ option (codes "junit") AnyText ∷ flag (codes "annotations") ∷ flag (codes "html") ∷ []
 
 -- between whom is served, how long, and where that is recorded
 abbrev pub serving : List Entry

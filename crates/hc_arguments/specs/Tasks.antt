@@ -36,13 +36,14 @@ use Rattle.hc_arguments.specs.Tables.Command.{Audits, Reports, Explains, Shows, 
 
 -- ---- what is asked
 
--- a report is one JSON object or else text, what an earlier report has isn't held against the file, if one is named, and it is asked whether that has more; annotations stand behind it, and a file gets test cases, if one is named
+-- a report is one JSON object or else text, what an earlier report has isn't held against the file, if one is named, and it is asked whether that has more; annotations stand behind it, and a file gets test cases, if one is named; or it is a document in HTML
 pub record Form : Type 0 where
   pub json : Bool
   pub baseline : Option Text
   pub strict : Bool
   pub annotates : Bool
   pub junit : Option Text
+  pub html : Bool
 
 abbrev pub form_of : ReportTerms → Form
 form_of form = record {
@@ -51,11 +52,12 @@ form_of form = record {
   strict = form.strict;
   annotates = form.annotates;
   junit = option_map (λ name. name.now) form.junit;
+  html = form.html;
 }
 
 -- text, and nothing is known
 abbrev pub plain_form : Form
-plain_form = record { json = false; baseline = None; strict = false; annotates = false; junit = None }
+plain_form = record { json = false; baseline = None; strict = false; annotates = false; junit = None; html = false }
 
 -- what the commands can be asked
 pub data Task : Type 0 where
@@ -136,6 +138,7 @@ pub record AsksReport (value : Text → Option Text) (file : Text) (terms : Audi
   pub strict_is : flag_by (value (codes "baseline-strict")) ≡ form.strict
   pub annotates_is : flag_by (value (codes "annotations")) ≡ form.annotates
   pub junit_is : value (codes "junit") ≡ form.junit
+  pub html_is : flag_by (value (codes "html")) ≡ form.html
 
 -- and that of `explain`, which can't read standard input twice
 pub record AsksExplain (value : Text → Option Text) (file : Text) (terms : ExplainTerms) : Type 0 where

@@ -9,7 +9,7 @@ mod origins;
 mod positions;
 mod rows;
 
-pub use arguments::{not_text, parsed, without_baseline};
+pub use arguments::{beside_html, not_text, parsed, without_baseline};
 pub use hc_options::{AuditTerms, Minimums};
 pub use order::{
     ExplainTerms, Order, ProxyLimits, ProxyPatience, Proxying, RecordTerms, ReportTerms, Serving,

@@ -83,6 +83,8 @@ pub struct ReportTerms<'a> {
     pub annotates: bool,
     /// The name of the file that gets the wrong replies as JUnit's XML.
     pub junit: Option<&'a str>,
+    /// Whether it is a document in HTML, in place of text.
+    pub html: bool,
 }
 
 /// Which reply an explanation is of, and how that is given.

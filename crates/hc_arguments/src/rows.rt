@@ -132,8 +132,18 @@ const ANNOTATIONS: Row = Row {
     help: "Behind the report, a command of GitHub's workflows for each of the first 1000 wrong replies that --baseline hasn't",
 };
 
+const HTML: Row = Row {
+    name: "html",
+    kind: Kind::Flag,
+    value: "",
+    takes: Takes::AnyText,
+    required: false,
+    help: "In place of text, a document in HTML, with what came before each of the first wrong replies. FILE is read twice. It goes \
+        without --json, --baseline, --junit and --annotations",
+};
+
 /// In which form it reports, and what isn't held against a recording.
-pub(crate) const REPORTING: [Row; 5] = [JSON, BASELINE, BASELINE_STRICT, JUNIT, ANNOTATIONS];
+pub(crate) const REPORTING: [Row; 6] = [JSON, BASELINE, BASELINE_STRICT, JUNIT, ANNOTATIONS, HTML];
 
 const LISTEN: Row = Row {
     name: "listen",

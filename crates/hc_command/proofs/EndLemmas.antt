@@ -2,11 +2,12 @@
 use Rattle.std.proofs.Common.{◌≡◌, ℕ, Bool, true, false, List, Option, Some, None, inl, inr, subst}
 use Rattle.std.specs.Io.KnownBytes.{Keeps}
 use Rattle.hc_options.specs.declared.auditing.AuditTerms.{AuditTerms}
-use Rattle.hc_arguments.specs.Tasks.{Task}
+use Rattle.hc_arguments.specs.Tasks.{Form, Task}
 use Rattle.hc_arguments.specs.Tasks.Task.{ToAudit, ToReport, ToExplain, ToShow, ToReplay, ToConvert, ToSplit, ToJoin, ToServe, ToProxy}
 use Rattle.hc_auditing.specs.Ends.{EndsUnasked}
 use Rattle.hc_command.specs.Ends.{Does, Ends}
 use Rattle.hc_command.specs.Report.{ExplainedTwice}
+use Rattle.hc_command.specs.Documents.{ReportedAs}
 use Rattle.hc_command.specs.Reporting.{ReportedFor}
 
 pub does_as : (done task : Task) (status : ℕ) (old new faults_old faults_new : Option (List ℕ)) → done ≡ task
@@ -25,10 +26,15 @@ report_with_3 json None true annotates terms status old new faults_old faults_ne
 report_with_3 json None false annotates terms status old new faults_old faults_new is kept = inl is
 report_with_3 json (Some name) strict annotates terms status old new faults_old faults_new is kept = inr (inl is)
 
+report_as_3 : (html : Bool) (form : Form) (terms : AuditTerms) (status : ℕ) (old new faults_old faults_new : Option (List ℕ)) → status ≡ 3
+    → Keeps old new → ReportedAs html form terms status old new faults_old faults_new
+report_as_3 true form terms status old new faults_old faults_new is kept = inl (inr is, kept)
+report_as_3 false form terms status old new faults_old faults_new is kept = report_with_3 form.json form.baseline form.strict form.annotates terms status old new faults_old faults_new is kept
+
 pub fails_with_3 : (task : Task) (status : ℕ) (old new faults_old faults_new : Option (List ℕ)) → status ≡ 3 → Keeps old new
     → Does task status old new faults_old faults_new
 fails_with_3 (ToAudit file terms) status old new faults_old faults_new is kept = inl is
-fails_with_3 (ToReport file terms form) status old new faults_old faults_new is kept = report_with_3 form.json form.baseline form.strict form.annotates terms status old new faults_old faults_new is kept
+fails_with_3 (ToReport file terms form) status old new faults_old faults_new is kept = report_as_3 form.html form terms status old new faults_old faults_new is kept
 fails_with_3 (ToExplain file terms) status old new faults_old faults_new is kept = inr (explained_with_3 terms.json terms.position status old new faults_old faults_new is)
 fails_with_3 (ToShow file span) status old new faults_old faults_new is kept = inl is
 fails_with_3 (ToReplay file) status old new faults_old faults_new is kept = inl is

@@ -1,4 +1,5 @@
 mod HeldLemmas
+pub mod DocumentLemmas
 pub mod EndLemmas
 pub mod ReplayLemmas
 pub mod ConvertLemmas

@@ -9,7 +9,7 @@ use Rattle.hc_auditing.specs.Audit.{Answers}
 use Rattle.hc_command.specs.Convert.{Converted}
 use Rattle.hc_command.specs.Replay.{Played}
 use Rattle.hc_command.specs.Report.{Explained}
-use Rattle.hc_command.specs.Reporting.{ReportedOn}
+use Rattle.hc_command.specs.Documents.{ReportedOn}
 use Rattle.hc_command.specs.Show.{ShownFor}
 use Rattle.hc_parting.specs.Ends.{EndsJoin, EndsSplit}
 use Rattle.hc_shown.specs.declared.span.Span.{Span}

@@ -1,4 +1,5 @@
 pub mod Baseline
+pub mod Documents
 pub mod Ends
 pub mod Replay
 pub mod Report

@@ -15,7 +15,6 @@ use Rattle.hc_report.specs.Counting.{HasCountedIn, HasHeardOf, TellsAllOf}
 use Rattle.hc_report.specs.Json.{WritesAll}
 use Rattle.hc_report.specs.Kinds.{kinds_in}
 use Rattle.hc_report.specs.Made.{made_by}
-use Rattle.hc_arguments.specs.Tasks.{Form}
 use Rattle.hc_options.specs.declared.auditing.AuditTerms.{AuditTerms}
 use Rattle.hc_options.specs.declared.auditing.Minimums.{Minimums}
 use Rattle.hc_command.specs.declared.reporting.ReportEnd.{ReportEnd}
@@ -177,9 +176,6 @@ abbrev pub ReportedFor : Bool → Option (List ℕ) → Bool → Bool → AuditT
 ReportedFor json None strict annotates terms status old new faults_old faults_new = ReportedAlone json strict annotates terms status old new faults_old faults_new
 ReportedFor json (Some name) strict annotates terms status old new faults_old faults_new =
     (((status ≡ 64) ⊎ (status ≡ 3)) × Keeps old new) ⊎ (status ≡ 3) ⊎ ((baseline : Baseline) × HeldBy json baseline strict annotates terms status old new faults_old faults_new)
-
-abbrev pub ReportedOn : Form → AuditTerms → ℕ → Option (List ℕ) → Option (List ℕ) → Option (List ℕ) → Option (List ℕ) → Type 0
-ReportedOn form terms status old new faults_old faults_new = ReportedFor form.json form.baseline form.strict form.annotates terms status old new faults_old faults_new
 
 -- ---- what private functions promise
 

@@ -4,6 +4,7 @@
 
 mod baseline;
 mod converting;
+mod documenting;
 mod explaining;
 mod objects;
 mod replaying;
@@ -16,6 +17,7 @@ mod surveying;
 
 pub use baseline::{BaselineTrouble, baseline_of};
 pub use converting::convert;
+pub use documenting::report_in_html;
 pub use explaining::explain;
 pub use replaying::replay;
 pub use reporting::{Beside, ReportEnd, ReportForm, report};

@@ -14,17 +14,19 @@ ghost use Rattle.hc_command.specs.Ends.{Does, Ends, Proxied, Served};
 ghost use Rattle.hc_command.specs.Replay.{Played};
 ghost use Rattle.hc_command.specs.Show.{ShownFor};
 ghost use Rattle.hc_command.specs.Report.{Explained, ExplainedTwice};
-ghost use Rattle.hc_command.specs.Reporting.{ReportedAlone, ReportedBy, ReportedIn, ReportedOn};
+ghost use Rattle.hc_command.specs.Documents.{Documented, ReportedAs, ReportedOn};
+ghost use Rattle.hc_command.specs.Reporting.{ReportedAlone, ReportedBy, ReportedIn};
 
 use crate::baseline::{BaselineTrouble, baseline_of};
 use crate::converting::convert;
+use crate::documenting::report_in_html;
 use crate::explaining::explain;
 use crate::replaying::replay;
 use crate::reporting::{Beside, ReportForm, report};
 use crate::serving::Server;
 use crate::showing::show;
 use hc_arguments::{
-    AuditTerms, ExplainTerms, Order, ReportTerms, not_text, parsed, without_baseline,
+    AuditTerms, ExplainTerms, Order, ReportTerms, beside_html, not_text, parsed, without_baseline,
 };
 use hc_auditing::{
     Trouble, audited, input_name, input_of, opened, printed, shown, unread, words_of,
@@ -157,7 +159,7 @@ where
     }
 }
 
-// Reports on the file as is asked, if the baseline that is named is there.
+// Reports on the file as is asked.
 fn report_asked<R, W: Write, E: Write>(
     rt: &R,
     file: &str,
@@ -171,12 +173,89 @@ where
     ensures { ReportedOn (form_of form.entry) terms result (W.contents output.old) (W.contents output.new)
         (E.contents faults.old) (E.contents faults.new) }
 {
+    if form.html {
+        document_asked(rt, file, terms, form, output, faults)
+    } else {
+        report_in_text(rt, file, terms, form, output, faults)
+    }
+}
+
+// Reports on the file in HTML, if that alone is asked, and it can be read twice.
+fn document_asked<R, W: Write, E: Write>(
+    rt: &R,
+    file: &str,
+    terms: AuditTerms,
+    form: ReportTerms<'_>,
+    output: &mut W,
+    faults: &mut E,
+) -> u8
+where
+    R: Files + AllocGlobal,
+    ensures { ReportedAs true (form_of form.entry) terms result (W.contents output.old) (W.contents output.new)
+        (E.contents faults.old) (E.contents faults.new) }
+{
+    if has_other_form(form) {
+        return refused_beside(rt.alloc(), output, faults);
+    }
+    if file == "-" {
+        return not_twice(faults);
+    }
+    match reads_twice(rt, file) {
+        Ok(true) => document_twice(rt, file, terms, output, faults),
+        Ok(false) => not_twice(faults),
+        Err(error) => Trouble::Device(error).told(file, faults),
+    }
+}
+
+// Whether something is asked that doesn't go with HTML.
+fn has_other_form(form: ReportTerms<'_>) -> bool {
+    let has_file = form.baseline.is_some() || form.junit.is_some();
+    has_file || form.json || form.annotates || form.strict
+}
+
+// Reports in HTML on the file, which is opened twice.
+fn document_twice<R, W: Write, E: Write>(
+    rt: &R,
+    file: &str,
+    terms: AuditTerms,
+    output: &mut W,
+    faults: &mut E,
+) -> u8
+where
+    R: Files + AllocGlobal,
+    ensures { Documented terms result (W.contents output.old) (W.contents output.new)
+        (E.contents faults.old) (E.contents faults.new) }
+{
+    let alloc = rt.alloc();
+    match (opened(rt, file), opened(rt, file)) {
+        (Ok(mut first), Ok(mut again)) => report_in_html(
+            alloc, terms, file, &mut first, &mut again, output, faults,
+        ),
+        (Err(error), _) | (_, Err(error)) => Trouble::Device(error).told(file, faults),
+    }
+}
+
+// Reports on the file in text or JSON, if the baseline that is named is there.
+fn report_in_text<R, W: Write, E: Write>(
+    rt: &R,
+    file: &str,
+    terms: AuditTerms,
+    form: ReportTerms<'_>,
+    output: &mut W,
+    faults: &mut E,
+) -> u8
+where
+    R: Files + Input + AllocGlobal,
+    ensures { ReportedAs false (form_of form.entry) terms result (W.contents output.old) (W.contents output.new)
+        (E.contents faults.old) (E.contents faults.new) }
+{
     let ReportTerms {
         json,
         baseline,
         strict,
         annotates,
         junit,
+        html: _,
     } = form;
     let Some(name) = baseline else {
         return report_alone(rt, file, terms, form, output, faults);
@@ -232,6 +311,17 @@ fn refused<W: Write, E: Write>(alloc: Global, output: &mut W, faults: &mut E) ->
     ensures quiet { Keeps (W.contents output.old) (W.contents output.new) }
 {
     match without_baseline(alloc) {
+        Ok(error) => shown(&error, output, faults),
+        Err(error) => Trouble::from(error).told("", faults),
+    }
+}
+
+// Says that HTML goes without another form.
+fn refused_beside<W: Write, E: Write>(alloc: Global, output: &mut W, faults: &mut E) -> u8
+    ensures status { (result ≡ 64) ⊎ (result ≡ 3) }
+    ensures quiet { Keeps (W.contents output.old) (W.contents output.new) }
+{
+    match beside_html(alloc) {
         Ok(error) => shown(&error, output, faults),
         Err(error) => Trouble::from(error).told("", faults),
     }

@@ -3,11 +3,12 @@
 use crate::commands_words::asks_for_audit;
 use crate::devices::Pieces;
 use crate::written::Written;
-use hc_arguments::{Order, parsed};
+use hc_arguments::{AuditTerms, Order, ReportTerms, parsed};
 use hc_auditing::{audit, printed, shown};
 use hc_cases::Unanswered;
 use hc_command::{
     BaselineTrouble, Beside, ReportForm, baseline_of, convert, explain, replay, report,
+    report_in_html,
 };
 use hc_figures::Baseline;
 use hc_options::audit_asked;
@@ -71,23 +72,9 @@ fn done<W: Write, E: Write>(
 ) -> Result<u8, Unanswered> {
     match order {
         Order::Audit { file, terms } => Ok(audit(alloc, terms, file, input, output, faults)),
-        Order::Report { file, terms, form } => match known(alloc, form.baseline) {
-            Ok(baseline) => {
-                let wants_junit = form.junit.is_some();
-                let mut beside = Beside::new(alloc, file, wants_junit);
-                let form = ReportForm {
-                    json: form.json,
-                    baseline,
-                    strict: form.strict,
-                    annotates: form.annotates,
-                };
-                let beside_it = &mut beside;
-                let status = report(alloc, terms, form, beside_it, input, output, faults);
-                put_junit(beside.junit.as_str(), output)?;
-                Ok(status)
-            }
-            Err(trouble) => Ok(trouble.told("baseline", faults)),
-        },
+        Order::Report { file, terms, form } => reported(
+            alloc, file, terms, form, input, output, faults,
+        ),
         Order::Explain { file, terms } => {
             let mut again = input.again();
             Ok(explain(alloc, terms, file, input, &mut again, output, faults))
@@ -95,6 +82,37 @@ fn done<W: Write, E: Write>(
         Order::Replay { file } => Ok(replay(alloc, file, input, output, faults)),
         Order::Convert { file } => Ok(convert(alloc, file, input, output, faults)),
         _ => Err(Unanswered::Unknown),
+    }
+}
+
+// Reports in that form, and answers the exit status.
+fn reported<W: Write, E: Write>(
+    alloc: Global,
+    file: &str,
+    terms: AuditTerms,
+    form: ReportTerms<'_>,
+    input: &mut Pieces<'_>,
+    output: &mut W,
+    faults: &mut E,
+) -> Result<u8, Unanswered> {
+    if form.html {
+        let mut again = input.again();
+        return Ok(report_in_html(alloc, terms, file, input, &mut again, output, faults));
+    }
+    match known(alloc, form.baseline) {
+        Ok(baseline) => {
+            let mut beside = Beside::new(alloc, file, form.junit.is_some());
+            let form = ReportForm {
+                json: form.json,
+                baseline,
+                strict: form.strict,
+                annotates: form.annotates,
+            };
+            let status = report(alloc, terms, form, &mut beside, input, output, faults);
+            put_junit(beside.junit.as_str(), output)?;
+            Ok(status)
+        }
+        Err(trouble) => Ok(trouble.told("baseline", faults)),
     }
 }
 

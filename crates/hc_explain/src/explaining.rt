@@ -13,7 +13,7 @@ ghost use Rattle.hc_explain.specs.Facts.{IsFormOf, IsJsonOf, IsTextOf};
 ghost use Rattle.hc_explain.specs.Heads.{IsHead};
 ghost use Rattle.hc_explain.specs.Hearing.{HasHeard, HasTold, IsExplained, IsOf, IsToldAmong, Keeps, RemembersAll};
 
-use crate::facts::{put_facts, say_broken};
+use crate::facts::{asked_of, put_facts, say_broken};
 use crate::object::NestedObject;
 use crate::telling::tell;
 use hc_audit::{JudgedReply, PassedRecord, Witness};
@@ -22,6 +22,7 @@ use hc_history::Finding;
 use hc_index::Index;
 use hc_past::Past;
 use hc_shown::Page;
+use hc_use::Demand;
 use hc_why::{Explanation, FoundReply};
 use std::alloc::{AllocError, Global};
 use std::fmt::Write;
@@ -62,6 +63,7 @@ pub struct Explaining {
     form: Form,
     past: Past,
     told: Option<String>,
+    asked: Option<Demand>,
     is_after: bool,
 }
 
@@ -73,6 +75,7 @@ impl Drop for Explaining {
             form: _,
             past,
             told,
+            asked: _,
             is_after: _,
         } = self;
         drop(found);
@@ -93,6 +96,7 @@ impl Explaining {
             form,
             past,
             told: None,
+            asked: None,
             is_after: false,
         })
     }
@@ -119,8 +123,26 @@ impl Explaining {
         if !self.found.is_as(judged) {
             return Ok(());
         }
-        self.told = explained(self.alloc, judged, self.form, &self.past)?;
+        self.told = explained(self.alloc, judged, self.form, &self.past, &mut self.asked)?;
         Ok(())
+    }
+
+    /// The reply that it looks for.
+    pub fn found(&self) -> &FoundReply {
+        &self.found
+    }
+
+    /// What is told of it, once it was read again, as it was.
+    pub fn told(&self) -> Option<&str> {
+        match &self.told {
+            Some(told) => Some(told.as_str()),
+            None => None,
+        }
+    }
+
+    /// What is asked that it doesn't keep, once it was read so.
+    pub fn asked(&self) -> Option<Demand> {
+        self.asked
     }
 
     /// What is told of the reply, which is moved. None where it wasn't read again, as it was.
@@ -132,12 +154,13 @@ impl Explaining {
     }
 }
 
-// What is told of that reply, in that form.
+// What is told of that reply, in that form, and what is asked that it doesn't keep.
 fn explained<I: Index>(
     alloc: Global,
     judged: &JudgedReply<'_, I>,
     form: Form,
     past: &Past,
+    asked: &mut Option<Demand>,
 ) -> Result<Option<String>, AllocError>
     ensures { (h : List Item) (target : Target) → IsReplyBehind I.seen h judged.now → RemembersAll target h past.now
         → IfSome (claim_judged (judged_of judged.now) h) (λ claim. same_target target claim.target ≡ true)
@@ -146,6 +169,7 @@ fn explained<I: Index>(
     let Some(known) = Explanation::read(alloc, judged, past)? else {
         return Ok(None);
     };
+    *asked = Some(asked_of(&known));
     Ok(Some(told_of(alloc, &known, form)?))
 }
 

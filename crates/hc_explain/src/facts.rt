@@ -19,8 +19,8 @@ const NOTHING: Demand = Demand {
     words: "",
 };
 
-// What is asked that a wrong reply doesn't keep.
-fn asked_of(known: &Explanation<'_>) -> Demand
+/// What is asked that a wrong reply doesn't keep.
+pub(crate) fn asked_of(known: &Explanation<'_>) -> Demand
     ensures { AreAskedOf known.now known.now.finding result.sections.now }
 {
     match known.finding {

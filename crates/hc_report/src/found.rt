@@ -50,6 +50,14 @@ impl<T: Drop> Firsts<T> {
     }
 }
 
+/// A target of a group, as it is shown.
+#[derive(Drop)]
+pub(crate) struct Named {
+    pub(crate) shown: String,
+    /// The position of the first of its replies in the group.
+    pub(crate) position: u64,
+}
+
 /// By how many seconds the replies of a group are off.
 #[derive(Clone, Copy)]
 pub(crate) struct Spread {
@@ -59,8 +67,9 @@ pub(crate) struct Spread {
 
 /// The wrong replies that have a reason in common, and the words for what is wrong in them.
 #[derive(Drop)]
-pub(crate) struct Group {
-    pub(crate) reason: Reason,
+pub struct Group {
+    /// The reason.
+    pub reason: Reason,
     /// A word for what in them is.
     pub(crate) kind: &'static str,
     what: String,
@@ -69,10 +78,11 @@ pub(crate) struct Group {
     /// Whether no response of their targets is recorded.
     pub(crate) is_unrecorded: bool,
     /// How many there are, or the greatest number.
-    pub(crate) count: u64,
-    pub(crate) first: u64,
-    /// What they were asked for, each target once as it is shown, and how many were asked for another one.
-    pub(crate) targets: Firsts<String>,
+    pub count: u64,
+    /// The position of the first of them.
+    pub first: u64,
+    /// What they were asked for, each target once, and how many were asked for another one.
+    pub(crate) targets: Firsts<Named>,
     pub(crate) spread: Option<Spread>,
 }
 
@@ -121,9 +131,9 @@ impl Group {
     }
 
     // Names a target of its replies.
-    fn name(&mut self, target: String) -> Result<(), AllocError> {
+    fn name(&mut self, target: Named) -> Result<(), AllocError> {
         for known in self.targets.kept.iter() {
-            if known.as_str() == target.as_str() {
+            if known.shown.as_str() == target.shown.as_str() {
                 return Ok(());
             }
         }
@@ -136,7 +146,7 @@ impl Group {
     }
 
     /// Writes what is wrong in its replies, and by how much.
-    pub(crate) fn say_what(&self, page: &mut Page) {
+    pub fn say_what(&self, page: &mut Page) {
         page.words(self.what.as_str());
         let Some(spread) = self.spread else {
             return;
@@ -146,6 +156,22 @@ impl Group {
             page.count(" to ", spread.greatest, "");
         }
         page.words(" s");
+    }
+
+    /// Writes the first target, and how many more there are.
+    pub fn say_targets(&self, page: &mut Page) {
+        let targets = &self.targets;
+        let Some((first, others)) = targets.kept.as_slice().split_first() else {
+            return;
+        };
+        page.words(first.shown.as_str());
+        let more = others.len() as u64;
+        if targets.more != 0 {
+            return page.count(" and over ", more, " more");
+        }
+        if more != 0 {
+            page.count(" and ", more, " more");
+        }
     }
 }
 
@@ -160,7 +186,11 @@ fn group_of(groups: &[Group], one: &Group) -> usize {
 }
 
 // Takes in a wrong reply, which is a group by itself, and its target: adds it to the group where it belongs, or begins one.
-fn add(groups: &mut Firsts<Group>, mut one: Group, target: String) -> Result<(), AllocError> {
+fn add(groups: &mut Firsts<Group>, mut one: Group, shown: String) -> Result<(), AllocError> {
+    let target = Named {
+        shown,
+        position: one.first,
+    };
     let place = group_of(groups.kept.as_slice(), &one);
     if place < groups.kept.len() {
         groups.kept[place].join(&one);
@@ -182,11 +212,19 @@ pub(crate) fn unrecorded(groups: &[Group]) -> u64 {
 
 /// A field that was dropped or changed, which is rather a fault than anything to be ignored.
 #[derive(Drop)]
-pub(crate) struct Suspect {
+pub struct Suspect {
     pub(crate) name: Octets,
     pub(crate) change: Change,
     /// In how many wrong replies, or the greatest number.
-    pub(crate) count: u64,
+    pub count: u64,
+}
+
+impl Suspect {
+    /// Writes what became of it, and its name.
+    pub fn say_what(&self, page: &mut Page) {
+        page.words(self.change.word());
+        page.said_octets(" ", self.name.as_slice(), "");
+    }
 }
 
 /// What is found of the wrong replies.

@@ -9,7 +9,7 @@ ghost use Rattle.hc_figures.specs.Nesting.{NestsTo};
 ghost use Rattle.hc_figures.specs.Objects.{Has, HasDepth};
 ghost use Rattle.hc_figures.specs.Figures.{HaveFigures};
 
-use crate::found::{Group, Spread, Suspect, unrecorded};
+use crate::found::{Group, Named, Spread, Suspect, unrecorded};
 use crate::made::shown;
 use crate::report::Report;
 use crate::tries::Helpful;
@@ -59,7 +59,10 @@ fn group_json(alloc: Global, group: &Group) -> Result<Value, AllocError>
     put_spread(group.spread, &mut object);
     object.number("count", group.count);
     object.number("first", group.first);
-    object.put("targets", texts_json(alloc, group.targets.kept.as_slice()));
+    object.put(
+        "targets",
+        targets_json(alloc, group.targets.kept.as_slice()),
+    );
     object.number("unnamed_targets", group.targets.more);
     object.into_value()
 }
@@ -94,12 +97,12 @@ fn put_spread(spread: Option<Spread>, object: &mut Object)
     object.number("greatest", greatest);
 }
 
-fn texts_json(alloc: Global, texts: &[String]) -> Result<Value, AllocError>
+fn targets_json(alloc: Global, targets: &[Named]) -> Result<Value, AllocError>
     ensures { IfOk result (NestsTo 1) }
 {
     let mut array = Array::new(alloc);
-    for text in texts {
-        array.push(Value::try_from_str(alloc, text.as_str()));
+    for target in targets {
+        array.push(Value::try_from_str(alloc, target.shown.as_str()));
     }
     array.into_value()
 }

@@ -5,6 +5,7 @@
 
 mod cases;
 mod counting;
+mod explained;
 mod found;
 mod json;
 mod made;
@@ -14,5 +15,7 @@ mod text;
 mod tries;
 
 pub use counting::CountingReport;
+pub use found::{Group, Suspect};
 pub use made::other_setting;
 pub use report::Report;
+pub use tries::Helpful;

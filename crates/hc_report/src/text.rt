@@ -89,8 +89,7 @@ fn say_suspects(suspects: &Firsts<Suspect>, page: &mut Page) {
     page.words("suspected faults, in how many of these replies\n");
     for suspect in suspects.kept.iter() {
         page.words("  ");
-        page.words(suspect.change.word());
-        page.said_octets(" ", suspect.name.as_slice(), "");
+        suspect.say_what(page);
         page.count(": ", suspect.count, "\n");
     }
     if suspects.more != 0 {
@@ -166,21 +165,6 @@ fn say_group(group: &Group, widths: Widths, page: &mut Page) {
     group.say_what(page);
     page.pad(begun, widths.what);
     page.words("  ");
-    say_targets(&group.targets, page);
+    group.say_targets(page);
     page.words("\n");
-}
-
-// Writes the first target, and how many more there are.
-fn say_targets(targets: &Firsts<String>, page: &mut Page) {
-    let Some((first, others)) = targets.kept.as_slice().split_first() else {
-        return;
-    };
-    page.words(first.as_str());
-    let more = others.len() as u64;
-    if targets.more != 0 {
-        return page.count(" and over ", more, " more");
-    }
-    if more != 0 {
-        page.count(" and ", more, " more");
-    }
 }

@@ -196,12 +196,24 @@ fn added_by<'a>(wrong: &'a Wrong<'_>) -> Option<&'a Differences> {
 }
 
 /// A try that makes fewer replies wrong.
-#[derive(Drop)]
-pub(crate) struct Helpful {
-    pub(crate) options: String,
-    pub(crate) wrong: u64,
+pub struct Helpful {
+    /// The options.
+    pub options: String,
+    /// How many are wrong then.
+    pub wrong: u64,
     /// Whether so many replies are wrong still; else it is how many there are at most.
-    pub(crate) is_exact: bool,
+    pub is_exact: bool,
+}
+
+impl Drop for Helpful {
+    fn drop(self) {
+        let Helpful {
+            options,
+            wrong: _,
+            is_exact: _,
+        } = self;
+        drop(options);
+    }
 }
 
 /// Other settings that wrong replies are judged by: more fields that are ignored, and what else the audit doesn't let pass.
