@@ -1,5 +1,8 @@
 //! Streams of either family: TCP's, and those of the system's own sockets.
 
+ghost use Rattle.std.specs.Io.{ReadsAtMost, WritesAtMost};
+ghost use Rattle.std.specs.Io.Slices.{io_slices_bytes};
+
 use mio::net::{TcpStream, UnixStream};
 use mio::{Interest, Registry, Token};
 use std::cell::Cell;
@@ -74,7 +77,9 @@ impl Channel {
     }
 
     /// Reads as `std::io::Read` does.
-    pub(crate) fn read(&mut self, buffer: &mut [u8]) -> io::Result<usize> {
+    pub(crate) fn read(&mut self, buffer: &mut [u8]) -> io::Result<usize>
+        ensures { ReadsAtMost result buffer.new }
+    {
         match self {
             Channel::Tcp(stream) => stream.read(buffer),
             Channel::Unix(local) => local.read(buffer),
@@ -82,7 +87,9 @@ impl Channel {
     }
 
     /// Writes as `std::io::Write` does, of several parts.
-    pub(crate) fn write_vectored(&self, parts: &[IoSlice<'_>]) -> io::Result<usize> {
+    pub(crate) fn write_vectored(&self, parts: &[IoSlice<'_>]) -> io::Result<usize>
+        ensures { WritesAtMost result (io_slices_bytes parts.now) }
+    {
         match self {
             Channel::Tcp(stream) => stream.write_vectored(parts),
             Channel::Unix(local) => local.stream.write_vectored(parts),
@@ -108,14 +115,16 @@ impl Channel {
 
 impl Local {
     /// Reads, first the octet that was taken.
-    fn read(&mut self, buffer: &mut [u8]) -> io::Result<usize> {
+    fn read(&mut self, buffer: &mut [u8]) -> io::Result<usize>
+        ensures { ReadsAtMost result buffer.new }
+    {
         let Some(octet) = self.first.get() else {
             return self.stream.read(buffer);
         };
-        let Some(place) = buffer.first_mut() else {
+        if buffer.is_empty() {
             return Ok(0);
-        };
-        *place = octet;
+        }
+        buffer[0] = octet;
         self.first.set(None);
         Ok(1)
     }
