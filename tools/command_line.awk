@@ -82,6 +82,7 @@ function add_option(command, line,    name, value) {
     value = substr(line, length(name) + 2)
     value = value ~ /^<[^>]*>/ ? substr(value, 1, index(value, ">")) : ""
     is_option[command, name] = 1
+    if (line ~ /; again for more$/) may_come_again[command, name] = 1
     required[command, name] = value != "" && index(usage_of[command] " ", " --" name " " value " ") > 0
     add_argument(command, name, value)
 }
@@ -223,6 +224,7 @@ function settle(another,    name) {
 }
 
 function use(name, another) {
+    if ((asked, name) in may_come_again && is_used(name)) return
     if (forget(name)) {
         if (another) return
         refuse("the argument '" shown(asked, name) "' cannot be used multiple times", plain_usage(asked))

@@ -1,1 +1,2 @@
 pub mod ArgumentLemmas
+pub mod ListenLemmas

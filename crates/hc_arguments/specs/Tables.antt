@@ -4,7 +4,7 @@ use Rattle.std.specs.Str.{bytes_eq}
 use Rattle.clap.specs.Words.{Text}
 use Rattle.hc_transcript.specs.Limits.{greatest_number}
 use Rattle.hc_service.specs.Settings.{is_name}
-use Rattle.hc_options.specs.declared.rows.Kind.TheVariants.{Valued}
+use Rattle.hc_options.specs.declared.rows.Kind.TheVariants.{Repeated, Valued}
 use Rattle.hc_options.specs.declared.rows.Takes.{Takes}
 use Rattle.hc_options.specs.declared.rows.Takes.TheVariants.{AnyText, FileName, Count, Number, Size, AllowedWords, Names, VaryNames, CacheName, Positions, OriginAddress}
 use Rattle.hc_options.specs.Rows.{Entry, argument, audit_entries, audited, counting, flag, is_taken, judging, option, terms}
@@ -32,6 +32,10 @@ taken_by VaryNames text = is_taken VaryNames text
 -- an option that has to be given
 abbrev pub wanted : Text → Takes → Entry
 wanted name takes = record { name = name; kind = Valued; takes = takes; required = true }
+
+-- and one that may be given again
+abbrev pub wanted_again : Text → Takes → Entry
+wanted_again name takes = record { name = name; kind = Repeated; takes = takes; required = true }
 
 -- a transcript that is read twice
 abbrev pub explained : Entry
@@ -101,12 +105,14 @@ abandoned = option (codes "abandoned") (Number 1 86400)
 abbrev pub drain_timeout : Entry
 drain_timeout = option (codes "drain-timeout") (Number 0 86400)
 
--- between whom a proxy stands, where and how far that is recorded, within which limits, whether responses that set a cookie are stored, and where replies are logged
+-- between whom a proxy stands, where and how far that is recorded, within which limits, whether responses that set a cookie are stored, where replies are logged, and where
+-- it tells of itself
 abbrev pub proxying : List Entry
-proxying = wanted (codes "listen") AnyText ∷ wanted (codes "origin") OriginAddress ∷ option (codes "record") AnyText
+proxying = wanted_again (codes "listen") AnyText ∷ wanted (codes "origin") OriginAddress ∷ option (codes "record") AnyText
     ∷ option (codes "record-limit") (Size 0) ∷ flag (codes "record-strict") ∷ max_connections ∷ origin_connections ∷ held
     ∷ idle_timeout ∷ request_timeout ∷ send_timeout ∷ queue_timeout ∷ connect_timeout ∷ origin_timeout ∷ origin_total ∷ abandoned ∷ drain_timeout
-    ∷ option (codes "connections") (Number 1 greatest_number) ∷ flag (codes "store-set-cookie") ∷ option (codes "access-log") AnyText ∷ []
+    ∷ option (codes "connections") (Number 1 greatest_number) ∷ flag (codes "store-set-cookie") ∷ option (codes "access-log") AnyText
+    ∷ option (codes "status") AnyText ∷ []
 
 -- what a cache is
 abbrev pub caching : List Entry

@@ -1,7 +1,9 @@
 -- What the words of a command line ask, and why they are refused.
-use Rattle.std.specs.Prelude.{◌≡◌, ◌<◌, ◌⊎◌, ⊤, ℕ, List, [], ◌∷◌, ◌++◌, Option, None, Some, Bool, false, true, codes, option_and_then, option_map}
+use Rattle.std.specs.Prelude.{◌≡◌, ◌<◌, ◌⊎◌, ⊤, ℕ, List, [], ◌∷◌, ◌++◌, Option, None, Some, Bool, false, true, codes, map, option_and_then, option_map}
+use Rattle.std.specs.Borrow.{Bor}
 use Rattle.std.specs.Str.{bytes_eq}
-use Rattle.clap.specs.Words.{HasKind, Row, Text, fault_of, kind_of, subcommand_of}
+use Rattle.clap.specs.Words.{HasKind, Row, Text, all_of, fault_of, kind_of, matched_of, raw_values, subcommand_of}
+use Rattle.clap.specs.declared.parser.matches.Found.{Found}
 use Rattle.clap.specs.declared.error.Error.{Error}
 use Rattle.clap.specs.declared.error.ErrorKind.TheVariants.{OutOfMemory}
 use Rattle.hc_transcript.specs.Limits.{greatest_number}
@@ -75,9 +77,9 @@ pub data Task : Type 0 where
   ToJoin : (dir : Text) (least : Minimums) → Task
   -- to serve so many connections there, before that origin, to record them to that file, from a cache of those settings
   ToServe : (listen origin : Text) (connections : ℕ) (file : Text) (settings : CoreSettings) → Task
-  -- to serve all that connect there at once, before that origin, to record them to that file, if any, on those terms, to log replies to that one, if any, within those
-  -- limits, from a cache of those settings, which stores responses that set a cookie, or doesn't
-  ToProxy : (listen origin : Text) (file log : Option Text) (terms : RecordTerms) (limits : ProxyLimits) (keeps_cookies : Bool) (settings : CoreSettings) → Task
+  -- to serve all that connect there at once, before that origin, to record them to that file, if any, on those terms, to log replies to that one, if any, to tell
+  -- of itself there, if anywhere, within those limits, from a cache of those settings, which stores responses that set a cookie, or doesn't
+  ToProxy : (listen origin : Text) (file log status : Option Text) (terms : RecordTerms) (limits : ProxyLimits) (keeps_cookies : Bool) (settings : CoreSettings) → Task
 
 abbrev pub command_of : Task → Command
 command_of (ToAudit file terms) = Audits
@@ -89,7 +91,16 @@ command_of (ToConvert file) = Converts
 command_of (ToSplit file parts dir) = Splits
 command_of (ToJoin dir least) = Joins
 command_of (ToServe listen origin connections file settings) = Serves
-command_of (ToProxy listen origin file log terms limits keeps_cookies settings) = Proxies
+command_of (ToProxy listen origin file log status terms limits keeps_cookies settings) = Proxies
+
+-- the first of some texts, of which there is one
+abbrev pub first_text : List (Bor Text) → Text
+first_text [] = []
+first_text (text ∷ rest) = text.now
+
+-- they are all of these
+abbrev pub AreAll : List (Bor Text) → Option (List Text) → Type 0
+AreAll texts all = Some (map (λ text. text.now) texts) ≡ all
 
 abbrev pub task_of : Order → Task
 task_of (Audit file terms) = ToAudit file.now terms
@@ -101,7 +112,20 @@ task_of (Convert file) = ToConvert file.now
 task_of (Split file parts dir) = ToSplit file.now parts dir.now
 task_of (Join dir least) = ToJoin dir.now least
 task_of (Serve s) = ToServe s.listen.now s.origin.now s.connections s.file.now s.settings
-task_of (Proxy p) = ToProxy p.listen.now p.origin.now (option_map (λ file. file.now) p.file) (option_map (λ file. file.now) p.log) p.terms p.limits p.keeps_cookies p.settings
+task_of (Proxy p) = ToProxy (first_text p.listens.items) p.origin.now (option_map (λ file. file.now) p.file) (option_map (λ file. file.now) p.log) (option_map (λ place. place.now) p.status) p.terms p.limits p.keeps_cookies p.settings
+
+-- a proxy listens at all of these places, in this order
+abbrev pub ListensAt : Option (List Text) → Order → Type 0
+ListensAt places (Proxy p) = AreAll p.listens.items places
+ListensAt places order = ⊤
+
+-- all values of that name that a parse found
+abbrev pub all_values : Found → Text → Option (List Text)
+all_values found name = option_map raw_values (matched_of found name)
+
+-- and those after the subcommand
+abbrev pub values_in : Option (Text × List Row) → Text → Option (List Text)
+values_in given name = option_and_then (λ p. all_of name p.1) given
 
 -- the values, by their names, ask that of `report`
 pub record AsksReport (value : Text → Option Text) (file : Text) (terms : AuditTerms) (form : Form) : Type 0 where
@@ -148,12 +172,13 @@ pub record AsksService (value : Text → Option Text) (listen origin : Text) (co
   pub settings_are : AsksCache keys_served value settings
 
 -- and that of `proxy`
-pub record AsksProxy (value : Text → Option Text) (listen origin : Text) (file log : Option Text) (terms : RecordTerms) (limits : ProxyLimits) (keeps_cookies : Bool) (settings : CoreSettings) : Type 0 where
+pub record AsksProxy (value : Text → Option Text) (listen origin : Text) (file log status : Option Text) (terms : RecordTerms) (limits : ProxyLimits) (keeps_cookies : Bool) (settings : CoreSettings) : Type 0 where
   pub listen_is : value (codes "listen") ≡ Some listen
   pub origin_is : value (codes "origin") ≡ Some origin
   pub origin_is_one : is_origin origin ≡ true
   pub file_is : value (codes "record") ≡ file
   pub log_is : value (codes "access-log") ≡ log
+  pub status_is : value (codes "status") ≡ status
   pub terms_are : AsksTerms value terms
   pub limits_are : AsksLimits value limits
   pub cookies_are : flag_by (value (codes "store-set-cookie")) ≡ keeps_cookies
@@ -169,7 +194,7 @@ ValuesAsk value (ToConvert file) = value (codes "FILE") ≡ Some file
 ValuesAsk value (ToSplit file parts dir) = AsksSplit value file parts dir
 ValuesAsk value (ToJoin dir least) = AsksJoin value dir least
 ValuesAsk value (ToServe listen origin connections file settings) = AsksService value listen origin connections file settings
-ValuesAsk value (ToProxy listen origin file log terms limits keeps_cookies settings) = AsksProxy value listen origin file log terms limits keeps_cookies settings
+ValuesAsk value (ToProxy listen origin file log status terms limits keeps_cookies settings) = AsksProxy value listen origin file log status terms limits keeps_cookies settings
 
 -- the command and its values ask that
 abbrev pub AsksBy : Option Command → (Text → Option Text) → Task → Type 0
@@ -192,7 +217,7 @@ abbrev pub CanBeDone : Task → Type 0
 CanBeDone (ToShow file span) = 0 < span.last
 CanBeDone (ToSplit file parts dir) = 0 < parts
 CanBeDone (ToServe listen origin connections file settings) = AreGood settings
-CanBeDone (ToProxy listen origin file log terms limits keeps_cookies settings) = AreGood settings
+CanBeDone (ToProxy listen origin file log status terms limits keeps_cookies settings) = AreGood settings
 CanBeDone task = ⊤
 
 -- ---- plain words

@@ -7,6 +7,7 @@ ghost use Rattle.hc_options.specs.Commands.{IsFileName, IsWord};
 ghost use Rattle.hc_options.specs.Refusals.{Refuses};
 ghost use Rattle.hc_options.specs.Rows.{IsAmong, entry_of};
 ghost use Rattle.hc_options.specs.Values.{number_by};
+ghost use Rattle.hc_options.specs.declared.refusal.Refusal.TheVariants.{Missing};
 ghost use Rattle.hc_options.specs.declared.rows.Takes.TheVariants.{Number};
 ghost use Rattle.hc_transcript.specs.Limits.{greatest_number};
 ghost use Rattle.hc_arguments.specs.Cache.{keys_proxied, keys_served, plain_cache};
@@ -16,7 +17,7 @@ ghost use Rattle.hc_arguments.specs.Origins.{is_origin};
 ghost use Rattle.hc_arguments.specs.Positions.{positive_of};
 ghost use Rattle.hc_arguments.specs.Tables.{Command, proxying, taken_by};
 ghost use Rattle.hc_arguments.specs.Tables.Command.{Audits, Converts, Explains, Joins, Proxies, Replays, Reports, Serves, Shows, Splits};
-ghost use Rattle.hc_arguments.specs.Tasks.{Asks, AsksBy, AsksIn, CanBeDone, IsRefused, IsRefusedIn, RefusesBy, RefusesIn, explaining, plain_form, proxy_words, service_words, task_of};
+ghost use Rattle.hc_arguments.specs.Tasks.{Asks, AsksBy, AsksIn, AreAll, CanBeDone, IsRefused, IsRefusedIn, ListensAt, RefusesBy, RefusesIn, all_values, explaining, first_text, plain_form, proxy_words, service_words, task_of, values_in};
 ghost use Rattle.hc_arguments.specs.Tasks.Task.{ToAudit, ToConvert, ToExplain, ToProxy, ToReplay, ToReport, ToServe};
 
 use crate::cache::cache_in;
@@ -90,13 +91,16 @@ pub fn parsed<'a, S: AsStr>(alloc: Global, words: &'a [S]) -> Result<Order<'a>, 
         (λ error. kind_of error ≡ ErrorKind.OutOfMemory) }
     // And `proxy` those of the two that it needs, no file, and the plain terms, limits and cache.
     ensures proxy { (name listen origin : Text) → is_origin origin ≡ true → map S.text words.entry.now ≡ name ∷ proxy_words listen origin
-        → MatchResult result (λ order. task_of order ≡ ToProxy listen origin None None plain_terms plain_limits false (plain_cache keys_proxied))
+        → MatchResult result (λ order. task_of order ≡ ToProxy listen origin None None None plain_terms plain_limits false (plain_cache keys_proxied))
         (λ error. kind_of error ≡ ErrorKind.OutOfMemory) }
 
     // Other words give what they say, where the command line has no fault and the values are in their ranges.
     ensures asked { IfOk result (λ order. Asks (map S.text words.entry.now) (task_of order)) }
     ensures taken { IfOk result (λ _. fault_of hcache (map S.text words.entry.now) ≡ []) }
     ensures refused { IfErr result (IsRefused (map S.text words.entry.now)) }
+
+    // A proxy listens at all places that are named, in their order.
+    ensures all { IfOk result (ListensAt (values_in (subcommand_of hcache (map S.text words.entry.now)) (codes "listen"))) }
 
     // What is asked can be done: there are caches of those settings.
     ensures possible { IfOk result (λ order. CanBeDone (task_of order)) }
@@ -107,6 +111,7 @@ pub fn parsed<'a, S: AsStr>(alloc: Global, words: &'a [S]) -> Result<Order<'a>, 
 // The same of any words, of which `parsed` tells more where they are plain.
 fn asked<'a, S: AsStr>(alloc: Global, words: &'a [S]) -> Result<Order<'a>, Error>
     ensures asked { IfOk result (λ order. Asks (map S.text words.entry.now) (task_of order)) }
+    ensures all { IfOk result (ListensAt (values_in (subcommand_of hcache (map S.text words.entry.now)) (codes "listen"))) }
     ensures taken { IfOk result (λ _. fault_of hcache (map S.text words.entry.now) ≡ []) }
     ensures refused { IfErr result (IsRefused (map S.text words.entry.now)) }
 {
@@ -126,6 +131,7 @@ fn matches_of<'a, S: AsStr>(alloc: Global, words: &'a [S]) -> Result<ArgMatches<
 // What the subcommand asks, or the error that says why it asks nothing.
 fn asked_in<'a>(alloc: Global, matches: &ArgMatches<'a>) -> Result<Order<'a>, Error>
     ensures ok { IfOk result (λ order. AsksIn (subcommand_rows_of matches.now) (task_of order)) }
+    ensures all { IfOk result (ListensAt (values_in (subcommand_rows_of matches.now) (codes "listen"))) }
     ensures err { IfErr result (IsRefusedIn (subcommand_rows_of matches.now)) }
 {
     match order_in(alloc, matches) {
@@ -139,6 +145,7 @@ fn asked_in<'a>(alloc: Global, matches: &ArgMatches<'a>) -> Result<Order<'a>, Er
 // What the subcommand asks.
 fn order_in<'a>(alloc: Global, matches: &ArgMatches<'a>) -> Result<Order<'a>, Refusal>
     ensures ok { IfOk result (λ order. AsksIn (subcommand_rows_of matches.now) (task_of order)) }
+    ensures all { IfOk result (ListensAt (values_in (subcommand_rows_of matches.now) (codes "listen"))) }
     ensures err { IfErr result (RefusesIn (subcommand_rows_of matches.now)) }
 {
     let Some((name, found)) = matches.subcommand() else {
@@ -308,23 +315,50 @@ fn connections_in(found: &ArgMatches<'_>) -> Result<u64, Refusal>
 // What `proxy` asks.
 fn proxy_in<'a>(alloc: Global, found: &ArgMatches<'a>) -> Result<Order<'a>, Refusal>
     ensures ok { IfOk result (λ order. AsksBy (Some Proxies) (first_value (found_of found.now)) (task_of order)) }
+    ensures all { IfOk result (ListensAt (all_values (found_of found.now) (codes "listen"))) }
     ensures err { IfErr result (RefusesBy (Some Proxies) (first_value (found_of found.now))) }
 {
-    let listen = required(found, "listen")?;
     let origin: &str = required(found, "origin")?;
     if !is_origin(origin) {
         return Err(Refusal::Value(&ORIGIN));
     }
     Ok(Order::Proxy(Proxying {
-        listen,
         origin,
         file: found.get_str("record"),
         log: found.get_str("access-log"),
+        status: found.get_str("status"),
         terms: terms_in(found)?,
         limits: limits_in(found)?,
         keeps_cookies: flag_in(found, "store-set-cookie"),
+        listens: listens_in(alloc, found)?,
         settings: cache_in(alloc, found, KEYS_PROXIED)?,
     }))
+}
+
+// Where clients connect to.
+fn listens_in<'a>(alloc: Global, found: &ArgMatches<'a>) -> Result<Vec<&'a str>, Refusal>
+    ensures ok { IfOk result (λ listens. first_value (found_of found.now) (codes "listen") ≡ Some (first_text listens.items)) }
+    ensures all { IfOk result (λ listens. AreAll listens.items (all_values (found_of found.now) (codes "listen"))) }
+    ensures err { IfErr result (RefusesBy (Some Proxies) (first_value (found_of found.now))) }
+{
+    let listens = named_listens(found)?;
+    let copied = listens.to_vec(alloc)?;
+    Ok(copied)
+}
+
+// The same, as the words have it: some place has to be named.
+fn named_listens<'m, 'a>(found: &'m ArgMatches<'a>) -> Result<&'m [&'a str], Refusal>
+    ensures ok { IfOk result (λ listens. first_value (found_of found.now) (codes "listen") ≡ Some (first_text listens.now)) }
+    ensures all { IfOk result (λ listens. AreAll listens.now (all_values (found_of found.now) (codes "listen"))) }
+    ensures err { IfErr result (λ refusal. (refusal ≡ Missing) × (first_value (found_of found.now) (codes "listen") ≡ None)) }
+{
+    let Some(listens) = found.get_strs("listen") else {
+        return Err(Refusal::Missing);
+    };
+    if listens.is_empty() {
+        return Err(Refusal::Missing);
+    }
+    Ok(listens)
 }
 
 // How far a proxy is to record.

@@ -114,14 +114,16 @@ pub struct Serving<'a> {
 /// Between whom a proxy stands, and how.
 #[derive(Drop)]
 pub struct Proxying<'a> {
-    /// The host and the port to which clients connect.
-    pub listen: &'a str,
+    /// Where clients connect to, one place at least: each a host and a port, or `unix:` and a path.
+    pub listens: Vec<&'a str>,
     /// The host and the port of the origin.
     pub origin: &'a str,
     /// The name of the file that is recorded to, which is new or empty; without it nothing is recorded.
     pub file: Option<&'a str>,
     /// Where it logs replies: the name of a file that is appended to, or `-` for standard output; nowhere without it.
     pub log: Option<&'a str>,
+    /// The host and the port at which it tells of itself; nowhere without it.
+    pub status: Option<&'a str>,
     /// How far it records there.
     pub terms: RecordTerms,
     /// How much it takes on at once, and for how long.

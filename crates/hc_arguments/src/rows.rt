@@ -335,6 +335,15 @@ const STORE_SET_COOKIE: Row = Row {
         none is kept",
 };
 
+const LISTENS: Row = Row {
+    name: "listen",
+    kind: Kind::Repeated,
+    value: "ADDRESS",
+    takes: Takes::AnyText,
+    required: true,
+    help: "Where clients connect to: HOST:PORT, or unix:PATH; again for more",
+};
+
 const ACCESS_LOG: Row = Row {
     name: "access-log",
     kind: Kind::Valued,
@@ -345,10 +354,19 @@ const ACCESS_LOG: Row = Row {
         one; `-` is standard output. Nothing is logged without the option",
 };
 
-/// Between whom a proxy stands, where and how far that is recorded, within which limits, what it stores beside the usual, and
-/// where replies are logged.
-pub(crate) const PROXYING: [Row; 20] = [
-    LISTEN,
+const STATUS: Row = Row {
+    name: "status",
+    kind: Kind::Valued,
+    value: "HOST:PORT",
+    takes: Takes::AnyText,
+    required: false,
+    help: "Where its numbers, its health and a page are told, none of them through the cache",
+};
+
+/// Between whom a proxy stands, where and how far that is recorded, within which limits, what it stores beside the usual,
+/// where replies are logged, and where it tells of itself.
+pub(crate) const PROXYING: [Row; 21] = [
+    LISTENS,
     ORIGIN,
     RECORD_IF_GIVEN,
     RECORD_LIMIT,
@@ -368,6 +386,7 @@ pub(crate) const PROXYING: [Row; 20] = [
     CLIENTS,
     STORE_SET_COOKIE,
     ACCESS_LOG,
+    STATUS,
 ];
 
 pub(crate) const KEYS: Row = Row {

@@ -16,7 +16,7 @@ const USAGE: &str =
     hcache explain [OPTIONS] <FILE> [POSITION]\n       hcache show <FILE> <POSITION[-POSITION]>\n       \
     hcache replay <FILE>\n       \
     hcache serve [OPTIONS] --listen <HOST:PORT> --origin <HOST:PORT> --connections <N> --record <FILE>\n       \
-    hcache proxy [OPTIONS] --listen <HOST:PORT> --origin <HOST:PORT>\n       \
+    hcache proxy [OPTIONS] --listen <ADDRESS> --origin <HOST:PORT>\n       \
     hcache convert <FILE>\n       \
     hcache split <FILE> <N> <DIR>\n       \
     hcache join [OPTIONS] <DIR>\n";

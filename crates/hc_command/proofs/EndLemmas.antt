@@ -36,7 +36,7 @@ fails_with_3 (ToConvert file) status old new faults_old faults_new is kept = inl
 fails_with_3 (ToSplit file parts dir) status old new faults_old faults_new is kept = inl is
 fails_with_3 (ToJoin dir least) status old new faults_old faults_new is kept = inl is
 fails_with_3 (ToServe listen origin connections file settings) status old new faults_old faults_new is kept = (kept, inl is)
-fails_with_3 (ToProxy listen origin file log terms limits keeps_cookies settings) status old new faults_old faults_new is kept = (kept, inl is)
+fails_with_3 (ToProxy listen origin file log told terms limits keeps_cookies settings) status old new faults_old faults_new is kept = (kept, inl is)
 
 -- and what is answered to a task is how the program ends
 pub does_ends : (task : Task) (status : ℕ) (old new faults_old faults_new : Option (List ℕ)) → Does task status old new faults_old faults_new
@@ -50,7 +50,7 @@ does_ends (ToConvert file) status old new faults_old faults_new does = inr (inr 
 does_ends (ToSplit file parts dir) status old new faults_old faults_new does = inr (inr (inr (inr (inr (inr (inr (inr (inl does))))))))
 does_ends (ToJoin dir least) status old new faults_old faults_new does = inr (inr (inr (inr (inr (inr (inr (inr (inr (inl (least, does))))))))))
 does_ends (ToServe listen origin connections file settings) status old new faults_old faults_new does = inr (inr (inr (inr (inr (inr (inl does))))))
-does_ends (ToProxy listen origin file log terms limits keeps_cookies settings) status old new faults_old faults_new does = inr (inr (inr (inr (inr (inr (inr (inl does)))))))
+does_ends (ToProxy listen origin file log told terms limits keeps_cookies settings) status old new faults_old faults_new does = inr (inr (inr (inr (inr (inr (inr (inl does)))))))
 
 -- so is what is said where nothing is done
 pub unasked_ends : (status : ℕ) (old new faults_old faults_new : Option (List ℕ)) → EndsUnasked status old new faults_old faults_new

@@ -4,7 +4,7 @@ use crate::commands_burst::say_burst;
 use crate::commands_scripts::say_replay;
 use crate::commands_steps::say_steps;
 use crate::commands_tasks::{say_full, say_task};
-use crate::commands_words::{say_answer, say_status, say_text_of};
+use crate::commands_words::{say_answer, say_places, say_status, say_text_of};
 use crate::verdicts_answers::answer_of_octets;
 use hc_cases::{Ask, Case, Unanswered};
 use std::alloc::Global;
@@ -27,6 +27,7 @@ impl<'a, R: Files + Input + AllocGlobal> Ask for Commands<'a, R> {
             "answer" => say_answer(self.system, about, out),
             "text" => say_text_of(self.system, about, out),
             "status" => say_status(self.system, about, out),
+            "places" => say_places(alloc, about, out),
             _ => answer_in_memory(alloc, question, about, out),
         }
     }

@@ -2,9 +2,11 @@
 
 use crate::nobody::Nobody;
 use crate::written::Written;
+use hc_arguments::{Order, Proxying, parsed};
 use hc_cases::Unanswered;
 use hc_command::answered;
-use std::alloc::Global;
+use std::alloc::{AllocError, Global};
+use std::fmt::Write;
 use std::rt::Files;
 
 /// The words that the parts of a case are, behind the program's name.
@@ -109,4 +111,27 @@ where
     R: Files + Input + AllocGlobal,
 {
     Ok(written_for(system, parts)?.say_whether(out)?)
+}
+
+/// Writes where a proxy is to listen by the words, a place in brackets each, and where it is to tell of itself.
+pub(crate) fn say_places(
+    alloc: Global,
+    parts: &[Vec<u8>],
+    out: &mut String,
+) -> Result<(), Unanswered> {
+    let words = words_of(alloc, parts)?;
+    match parsed(alloc, words.as_slice()) {
+        Ok(Order::Proxy(proxying)) => Ok(say_places_of(&proxying, out)?),
+        _ => Err(Unanswered::Unknown),
+    }
+}
+
+fn say_places_of(proxying: &Proxying<'_>, out: &mut String) -> Result<(), AllocError> {
+    for place in proxying.listens.iter() {
+        write!(out, "[{place}]")?;
+    }
+    match proxying.status {
+        Some(place) => write!(out, ", told at [{place}]"),
+        None => Ok(()),
+    }
 }

@@ -109,18 +109,19 @@ where
     ensures { (result ≡ 3) ⊎ (result ≡ 64) ⊎ ((result ≡ 0) × SaysSome (E.contents faults.old) (E.contents faults.new)) }
 {
     let Proxying {
-        listen,
+        listens,
         origin,
         file,
         log,
+        status,
         terms,
         limits,
         keeps_cookies,
         settings,
     } = proxying;
     let proxy = Proxy {
-        listen: &[listen],
-        status: None,
+        listen: listens.as_slice(),
+        status,
         origin,
         recording: recording_to(file, terms),
         keeps_cookies,

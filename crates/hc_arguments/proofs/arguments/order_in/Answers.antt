@@ -1,7 +1,8 @@
-use Rattle.std.proofs.Common.{rules}
+use Rattle.std.proofs.Common.{refl, rules}
 use Rattle.clap.specs.Words.{found_of}
 use Rattle.hc_arguments.specs.Tables.Command.{Audits, Reports, Explains, Shows, Replays, Serves, Proxies, Converts, Splits, Joins}
 use Rattle.hc_arguments.proofs.ArgumentLemmas.{asks_in, refuses_in}
+use Rattle.hc_arguments.proofs.ListenLemmas.{all_listen, none_listens}
 use Rattle.hc_arguments.proofs.arguments.order_in.Goals as goal
 
 pub returns-in-audit-clause-ok : goal.returns-in-audit-clause-ok
@@ -103,3 +104,34 @@ pub returns-in-join-clause-err : goal.returns-in-join-clause-err
 returns-in-join-clause-err c =
     refuses_in c.args.matches.now c.in-Some.name.now (found_of c.in-Some.found.now) c.in-Some.ensures.name c.in-Some.ensures.rows Joins (search rules)
     c.join_in.result c.join_in.ensures.err
+
+pub returns-in-audit-clause-all : goal.returns-in-audit-clause-all
+returns-in-audit-clause-all c = none_listens Audits refl _ _ c.audit_in.result c.audit_in.ensures.ok
+
+pub returns-in-report-clause-all : goal.returns-in-report-clause-all
+returns-in-report-clause-all c = none_listens Reports refl _ _ c.report_in.result c.report_in.ensures.ok
+
+pub returns-in-explain-clause-all : goal.returns-in-explain-clause-all
+returns-in-explain-clause-all c = none_listens Explains refl _ _ c.explain_in.result c.explain_in.ensures.ok
+
+pub returns-in-show-clause-all : goal.returns-in-show-clause-all
+returns-in-show-clause-all c = none_listens Shows refl _ _ c.show_in.result c.show_in.ensures.ok
+
+pub returns-in-replay-clause-all : goal.returns-in-replay-clause-all
+returns-in-replay-clause-all c = none_listens Replays refl _ _ c.replay_in.result c.replay_in.ensures.ok
+
+pub returns-in-serve-clause-all : goal.returns-in-serve-clause-all
+returns-in-serve-clause-all c = none_listens Serves refl _ _ c.serve_in.result c.serve_in.ensures.ok
+
+pub returns-in-convert-clause-all : goal.returns-in-convert-clause-all
+returns-in-convert-clause-all c = none_listens Converts refl _ _ c.convert_in.result c.convert_in.ensures.ok
+
+pub returns-in-split-clause-all : goal.returns-in-split-clause-all
+returns-in-split-clause-all c = none_listens Splits refl _ _ c.split_in.result c.split_in.ensures.ok
+
+pub returns-in-join-clause-all : goal.returns-in-join-clause-all
+returns-in-join-clause-all c = none_listens Joins refl _ _ c.join_in.result c.join_in.ensures.ok
+
+pub returns-in-proxy-clause-all : goal.returns-in-proxy-clause-all
+returns-in-proxy-clause-all c =
+    all_listen c.args.matches.now (found_of c.in-Some.found.now) c.in-Some.ensures.rows c.proxy_in.result c.proxy_in.ensures.all

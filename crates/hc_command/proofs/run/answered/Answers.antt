@@ -38,7 +38,7 @@ returns-in-Ok-clause-serve g c = λ name listen origin number file connections o
 
 pub returns-in-Ok-clause-proxy : goal.returns-in-Ok-clause-proxy
 returns-in-Ok-clause-proxy g c = λ name listen origin one same.
-    does_as (task_of c.in-Ok.order) (ToProxy listen origin None None plain_terms plain_limits false (plain_cache keys_proxied)) _ _ _ _ _ (c.in-Ok.ensures.proxy name listen origin one same) c.done.ensures
+    does_as (task_of c.in-Ok.order) (ToProxy listen origin None None None plain_terms plain_limits false (plain_cache keys_proxied)) _ _ _ _ _ (c.in-Ok.ensures.proxy name listen origin one same) c.done.ensures
 
 pub returns-in-Ok-clause-asked : goal.returns-in-Ok-clause-asked
 returns-in-Ok-clause-asked g c = λ task none asks.
