@@ -1,8 +1,9 @@
 -- The values of an option that may be given again.
-use Rattle.std.proofs.Common.{◌≡◌, ◌∙◌, ◌==◌, List, [], ◌∷◌, Option, None, Some, Bool, false, true, ap, length, map, refl, sym, codes, option_and_then, option_map}
+use Rattle.std.proofs.Common.{◌≡◌, ◌∙◌, ◌==◌, List, [], ◌∷◌, Option, None, Some, Bool, false, true, ap, arith, length, map, refl, sym, codes, option_and_then, option_map}
 use Rattle.std.specs.Borrow.{Bor}
 use Rattle.std.specs.Option.{option_map_or}
 use Rattle.std.specs.Prelude.{Result, IfOk, slice_get}
+use Rattle.std.proofs.lemmas.Bool.{eqb-true}
 use Rattle.std.proofs.lemmas.Result.{IfOk-weaker}
 use Rattle.clap.specs.Words.{Row, Text, all_of, first_value, matched_of, raw_values, rows_of, subcommand_rows_of}
 use Rattle.clap.specs.declared.parser.matches.ArgMatches.{ArgMatches}
@@ -38,7 +39,7 @@ none_named found name none = first_of_all found name None none
 pub no_first : (found : Found) (name : Text) (texts : List (Bor Text)) → AreAll texts (all_values found name) → (length texts == 0) ≡ true
     → first_value found name ≡ None
 no_first found name [] are empty = first_of_all found name (Some []) are
-no_first found name (text ∷ rest) are empty = absurd cc
+no_first found name (text ∷ rest) are empty = absurd (omega (arith, eqb-true (length (text ∷ rest)) 0 empty))
 
 pub first_named : (found : Found) (name : Text) (texts : List (Bor Text)) → AreAll texts (all_values found name) → (length texts == 0) ≡ false
     → first_value found name ≡ Some (first_text texts)
@@ -74,7 +75,7 @@ module _ (m : ArgMatches) (found : Found) (rows : Some (rows_of found) ≡ optio
 
 -- ---- what is no proxy
 
-is_proxy : Command → Bool
+abbrev pub is_proxy : Command → Bool
 is_proxy Proxies = true
 is_proxy Audits = false
 is_proxy Reports = false

@@ -11,5 +11,5 @@ pub returns-then-is_empty-clause-err : goal.returns-then-is_empty-clause-err
 returns-then-is_empty-clause-err c =
     (refl, no_first (found_of c.args.found.now) (codes "listen") c.in-Some.listens.now c.in-Some.ensures (sym c.is_empty.ensures ∙ c.if-is_empty.true))
 
-pub returns-in-None-clause-err : goal.returns-in-None-clause-err
-returns-in-None-clause-err c = (refl, none_named (found_of c.args.found.now) (codes "listen") c.in-None.ensures)
+pub returns-in_default-clause-err : goal.returns-in_default-clause-err
+returns-in_default-clause-err c = (refl, none_named (found_of c.args.found.now) (codes "listen") c.in_default.ensures)
