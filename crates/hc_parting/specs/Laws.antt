@@ -1,9 +1,9 @@
 -- How the filling of parts goes on.
-use Rattle.std.proofs.Common.{◌≡◌, ℕ, List, [], ◌++◌, Option, None, refl, subst, sym, append-nil, append_assoc}
+use Rattle.std.proofs.Common.{ℕ, List, [], ◌++◌, Option, None, refl, subst, sym, append-nil, append_assoc}
 use Rattle.hc_split.specs.declared.fault.SplitFault.{SplitFault}
 use Rattle.hc_split.specs.declared.outlets.Outlet.{Outlet}
 use Rattle.hc_split.specs.declared.splitter.Splitter.{Splitter}
-use Rattle.hc_split.specs.Splitting.{IsSplitting, SplitsOn}
+use Rattle.hc_split.specs.Splitting.{SplitsOn}
 use Rattle.hc_split.proofs.SplitLemmas.{splits_nothing, splits_on}
 use Rattle.hc_parting.specs.Filling.{Fills}
 

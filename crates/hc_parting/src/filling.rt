@@ -3,6 +3,7 @@
 ghost use Rattle.std.specs.Prelude.{◌≡◌, ◌<◌, ◌++◌, ℕ, List, [], IfSome, OnOk, None, length};
 ghost use Rattle.hc_transcript.specs.declared.record.Record.{Record};
 ghost use Rattle.hc_transcript.specs.Items.{Item};
+ghost use Rattle.hc_transcript.specs.Transcript.{IsTranscript};
 ghost use Rattle.hc_split.specs.Parting.{part_by};
 ghost use Rattle.hc_split.specs.Splitting.{IsSplitting};
 ghost use Rattle.hc_parting.specs.Filling.{Fills, IsParted};
@@ -23,23 +24,28 @@ pub(crate) enum Stop {
     Trouble(Trouble),
 }
 
-impl From<Trouble> for Stop {
-    fn from(trouble: Trouble) -> Stop {
-        Stop::Trouble(trouble)
-    }
-}
-
-impl From<SplitFault> for Stop {
-    fn from(fault: SplitFault) -> Stop {
-        Stop::Fault(fault)
-    }
-}
-
 // ---- the first reading
 
-#[derive(Drop)]
 struct Choosing {
     reader: FamilyReader,
+}
+
+impl Drop for Choosing {
+    fn drop(self) {
+        let Choosing { reader } = self;
+        drop(reader);
+    }
+}
+
+impl Choosing {
+    // The families, and the format, of what was read.
+    fn finish(self) -> Result<(Format, Families), Stop> {
+        let Choosing { reader } = self;
+        match reader.finish() {
+            Ok(found) => Ok(found),
+            Err(fault) => Err(Stop::Fault(fault)),
+        }
+    }
 }
 
 impl Fed<()> for Choosing {
@@ -63,7 +69,9 @@ impl Fed<()> for Choosing {
 
 /// The families of the targets of what `input` gives, and the format of that.
 pub(crate) fn chosen<R: Read>(alloc: Global, input: &mut R) -> Result<(Format, Families), Stop> {
-    let mut piece = buffer(alloc).map_err(Trouble::from)?;
+    let Ok(mut piece) = buffer(alloc) else {
+        return Err(Stop::Trouble(Trouble::Memory));
+    };
     let reader = FamilyReader::new(alloc);
     chosen_by(Choosing { reader }, input, piece.as_mut_slice())
 }
@@ -76,7 +84,7 @@ fn chosen_by<R: Read>(
     requires { 0 < length piece.old }
 {
     match pull(&mut choosing, &mut (), input, piece) {
-        Ok(None) => Ok(choosing.reader.finish()?),
+        Ok(None) => choosing.finish(),
         Ok(Some(fault)) => Err(Stop::Fault(fault)),
         Err(trouble) => Err(Stop::Trouble(trouble)),
     }
@@ -84,9 +92,26 @@ fn chosen_by<R: Read>(
 
 // ---- the second reading
 
-#[derive(Drop)]
 struct Filling {
     splitter: Splitter,
+}
+
+impl Drop for Filling {
+    fn drop(self) {
+        let Filling { splitter } = self;
+        drop(splitter);
+    }
+}
+
+impl Filling {
+    // Ends what was read.
+    fn finish(self) -> Result<(), SplitFault>
+        ensures { (octets : List ℕ) (records : List Record) (h : List Item) → IsSplitting self.splitter octets records h
+            → OnOk result (IsTranscript self.splitter.format octets records h) }
+    {
+        let Filling { splitter } = self;
+        splitter.finish()
+    }
 }
 
 impl<W: Write + Drop> Fed<Vec<Outlet<W>>> for Filling {
@@ -141,7 +166,7 @@ fn filled_by<R: Read, W: Write + Drop>(
         IsParted W.contents (part_by filling.splitter.parts) filling.splitter.format octets outlets.old.items outlets.new.items)) }
 {
     match pull(&mut filling, outlets, input, piece) {
-        Ok(None) => filling.splitter.finish(),
+        Ok(None) => filling.finish(),
         Ok(Some(fault)) => Err(fault),
         Err(Trouble::Memory) => Err(SplitFault::Memory),
         Err(Trouble::Device(error)) => Err(SplitFault::Output(error)),

@@ -10,19 +10,23 @@ pub(crate) fn manifest_name(alloc: Global, dir: &str) -> Result<String, AllocErr
     format!(in alloc; "{dir}/manifest")
 }
 
-/// The name of the part of that number, from 1 on.
-pub(crate) fn part_name(alloc: Global, dir: &str, number: usize) -> Result<String, AllocError> {
-    format!(in alloc; "{dir}/part-{number:03}.hct")
-}
+/// How the name of a part ends.
+pub(crate) const PART: &str = "hct";
 
-/// The name of its table.
-pub(crate) fn table_name(alloc: Global, dir: &str, number: usize) -> Result<String, AllocError> {
-    format!(in alloc; "{dir}/part-{number:03}.table")
-}
+/// How that of its table ends.
+pub(crate) const TABLE: &str = "table";
 
-/// The name of the file that has the verdict on it.
-pub(crate) fn verdict_name(alloc: Global, dir: &str, number: usize) -> Result<String, AllocError> {
-    format!(in alloc; "{dir}/part-{number:03}.hct.verdict")
+/// And that of the verdict on it.
+pub(crate) const VERDICT: &str = "hct.verdict";
+
+/// The name of the file of the part of that number, from 1 on, that ends so.
+pub(crate) fn name_in(
+    alloc: Global,
+    dir: &str,
+    number: usize,
+    ending: &str,
+) -> Result<String, AllocError> {
+    format!(in alloc; "{dir}/part-{number:03}.{ending}")
 }
 
 /// What stands where a folder is wanted.
@@ -56,8 +60,13 @@ pub(crate) fn place_of<R: Files + AllocGlobal>(rt: &R, dir: &str) -> io::Result<
 fn names_in<R: Files + AllocGlobal>(rt: &R, dir: &str) -> io::Result<Vec<u8>> {
     // By the slash the system follows a symbolic link to a folder.
     let path = format!(in rt.alloc(); "{dir}/")?;
-    let mut names = rt.open_dir(path.as_str())?;
-    let mut all = Vec::new(rt.alloc());
+    all_read(rt.alloc(), rt.open_dir(path.as_str()))
+}
+
+// What that gives up to its end.
+fn all_read<D: Read + Drop>(alloc: Global, found: io::Result<D>) -> io::Result<Vec<u8>> {
+    let mut names = found?;
+    let mut all = Vec::new(alloc);
     names.read_to_end(&mut all)?;
     Ok(all)
 }

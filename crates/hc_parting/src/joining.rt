@@ -3,8 +3,8 @@
 ghost use Rattle.std.specs.Prelude.{◌≡◌};
 ghost use Rattle.hc_parting.specs.Ends.{EndsJoin};
 
-use crate::folder::{manifest_name, part_name, table_name, verdict_name};
-use crate::manifest::{entries_of, entry_line, line_count, split_line};
+use crate::folder::{PART, TABLE, VERDICT, manifest_name, name_in};
+use crate::manifest::{entries_of, is_entry, lines_told, split_line};
 use crate::verdicts::verdict_said;
 use hc_auditing::{Fed, Trouble, all_of, buffer, ended, opened, pull, said};
 use hc_history::Verdict;
@@ -93,8 +93,20 @@ fn all_told<R: Files + AllocGlobal, E: Write>(
         return Ok(None);
     };
     let mut all = Vec::new(rt.alloc());
+    put_told(rt, dir, entries, &mut all, faults)?;
+    Ok(Some(all))
+}
+
+// Puts what is told of each of those parts behind what stands there.
+fn put_told<R: Files + AllocGlobal, E: Write>(
+    rt: &R,
+    dir: &str,
+    entries: &[u8],
+    all: &mut Vec<Told>,
+    faults: &mut E,
+) -> Result<(), Trouble> {
     let mut rest = entries;
-    for number in 1..=line_count(entries) {
+    for number in 1..=lines_told(entries).lines {
         if let Some((line, behind)) = split_line(rest) {
             let tells = part_told(rt, dir, number, line, faults)?;
             if all.push(tells).is_err() {
@@ -103,7 +115,7 @@ fn all_told<R: Files + AllocGlobal, E: Write>(
             rest = behind;
         }
     }
-    Ok(Some(all))
+    Ok(())
 }
 
 // What is told of the part of that number, which that line describes.
@@ -114,24 +126,29 @@ fn part_told<R: Files + AllocGlobal, E: Write>(
     line: &[u8],
     faults: &mut E,
 ) -> Result<Told, Trouble> {
-    let name = part_name(rt.alloc(), dir, number)?;
-    match files_seen(
-        rt,
-        name.as_str(),
-        table_name(rt.alloc(), dir, number)?.as_str(),
-    ) {
-        Ok(seen) => {
-            if entry_line(rt.alloc(), number, &seen.extent)?.as_bytes() != line {
-                let why = "it, or its table, isn't as it was split";
-                return Ok(untold(name.as_str(), why, faults));
-            }
-            let name = verdict_name(rt.alloc(), dir, number)?;
-            told_by(rt, name.as_str(), &seen, faults)
-        }
-        Err(Trouble::Memory) => Err(Trouble::Memory),
-        Err(Trouble::Device(error)) => Ok(untold(name.as_str(), error, faults)),
-        Err(Trouble::Output(error)) => Ok(untold(name.as_str(), error, faults)),
+    let name = name_in(rt.alloc(), dir, number, PART)?;
+    match part_seen(rt, dir, number, name.as_str()) {
+        Ok(seen) => told_of(rt, dir, number, line, name.as_str(), &seen, faults),
+        Err(trouble) => untold_by(trouble, name.as_str(), faults),
     }
+}
+
+// The same of a part that was seen.
+fn told_of<R: Files + AllocGlobal, E: Write>(
+    rt: &R,
+    dir: &str,
+    number: usize,
+    line: &[u8],
+    name: &str,
+    seen: &Seen,
+    faults: &mut E,
+) -> Result<Told, Trouble> {
+    if !is_entry(rt.alloc(), number, &seen.extent, line)? {
+        let why = "it, or its table, isn't as it was split";
+        return Ok(untold(name, why, faults));
+    }
+    let name = name_in(rt.alloc(), dir, number, VERDICT)?;
+    told_by(rt, name.as_str(), seen, faults)
 }
 
 // What the file of that name tells of a part.
@@ -141,13 +158,21 @@ fn told_by<R: Files + AllocGlobal, E: Write>(
     seen: &Seen,
     faults: &mut E,
 ) -> Result<Told, Trouble> {
-    let text = match octets_in(rt, name) {
-        Ok(text) => text,
-        Err(Trouble::Memory) => return Err(Trouble::Memory),
-        Err(Trouble::Device(error)) => return Ok(untold(name, error, faults)),
-        Err(Trouble::Output(error)) => return Ok(untold(name, error, faults)),
-    };
-    let Some(verdict) = verdict_said(rt.alloc(), text.as_slice())? else {
+    match octets_in(rt, name) {
+        Ok(text) => told_in(rt.alloc(), text.as_slice(), name, seen, faults),
+        Err(trouble) => untold_by(trouble, name, faults),
+    }
+}
+
+// What that text, which the file of that name has, tells of a part.
+fn told_in<E: Write>(
+    alloc: Global,
+    text: &[u8],
+    name: &str,
+    seen: &Seen,
+    faults: &mut E,
+) -> Result<Told, Trouble> {
+    let Some(verdict) = verdict_said(alloc, text)? else {
         let why = "it isn't the line of a yes or a no";
         return Ok(untold(name, why, faults));
     };
@@ -157,6 +182,15 @@ fn told_by<R: Files + AllocGlobal, E: Write>(
         return Ok(untold(name, why, faults));
     }
     Ok(tells)
+}
+
+// What is told of a part whose file of that name can't be read: nothing, unless memory was refused.
+fn untold_by<E: Write>(trouble: Trouble, name: &str, faults: &mut E) -> Result<Told, Trouble> {
+    match trouble {
+        Trouble::Memory => Err(Trouble::Memory),
+        Trouble::Device(error) => Ok(untold(name, error, faults)),
+        Trouble::Output(error) => Ok(untold(name, error, faults)),
+    }
 }
 
 // Whether that may be told of a part that has so much.
@@ -184,38 +218,72 @@ fn octets_in<R: Files + AllocGlobal>(rt: &R, name: &str) -> Result<Vec<u8>, Trou
 }
 
 // What a part has, and its table.
-#[derive(Drop)]
 struct Seen {
     extent: Extent,
     table: Vec<u8>,
 }
 
-// What the part has in the files of those names.
-fn files_seen<R: Files + AllocGlobal>(rt: &R, text: &str, table: &str) -> Result<Seen, Trouble> {
-    let mut tally = Tally::new();
-    let table = octets_in(rt, table)?;
-    tally.add_table(table.as_slice());
-    let mut weighing = Weighing { tally };
-    match opened(rt, text) {
-        Ok(mut file) => weigh(rt.alloc(), &mut weighing, &mut file)?,
-        Err(error) => return Err(Trouble::Device(error)),
+impl Drop for Seen {
+    fn drop(self) {
+        let Seen { extent: _, table } = self;
+        drop(table);
     }
-    Ok(Seen {
-        extent: weighing.tally.extent(),
-        table,
-    })
 }
 
-// Takes in the octets of a part, which is read piece after piece.
-fn weigh<F: Read>(alloc: Global, weighing: &mut Weighing, file: &mut F) -> Result<(), Trouble> {
+// What the part of that number, whose octets the file of that name has, has.
+fn part_seen<R: Files + AllocGlobal>(
+    rt: &R,
+    dir: &str,
+    number: usize,
+    name: &str,
+) -> Result<Seen, Trouble> {
+    let table = table_of(rt, dir, number)?;
+    let extent = extent_of(rt, name, table.as_slice())?;
+    Ok(Seen { extent, table })
+}
+
+// The table of the part of that number.
+fn table_of<R: Files + AllocGlobal>(rt: &R, dir: &str, number: usize) -> Result<Vec<u8>, Trouble> {
+    let name = name_in(rt.alloc(), dir, number, TABLE)?;
+    octets_in(rt, name.as_str())
+}
+
+// What a part of that table has, whose octets the file of that name has.
+fn extent_of<R: Files + AllocGlobal>(rt: &R, name: &str, table: &[u8]) -> Result<Extent, Trouble> {
+    match opened(rt, name) {
+        Ok(mut file) => weighed(rt.alloc(), table, &mut file),
+        Err(error) => Err(Trouble::Device(error)),
+    }
+}
+
+// The same, of octets that are read piece after piece.
+fn weighed<F: Read>(alloc: Global, table: &[u8], file: &mut F) -> Result<Extent, Trouble> {
     let mut piece = buffer(alloc)?;
-    pull(weighing, &mut (), file, piece.as_mut_slice())?;
-    Ok(())
+    let mut tally = Tally::new();
+    tally.add_table(table);
+    let mut weighing = Weighing { tally };
+    match pull(&mut weighing, &mut (), file, piece.as_mut_slice()) {
+        Ok(_) => Ok(weighing.extent()),
+        Err(trouble) => Err(trouble),
+    }
 }
 
-#[derive(Drop)]
 struct Weighing {
     tally: Tally,
+}
+
+impl Drop for Weighing {
+    fn drop(self) {
+        let Weighing { tally } = self;
+        drop(tally);
+    }
+}
+
+impl Weighing {
+    fn extent(self) -> Extent {
+        let Weighing { tally } = self;
+        tally.extent()
+    }
 }
 
 impl Fed<()> for Weighing {

@@ -5,11 +5,11 @@ ghost use Rattle.std.specs.Io.KnownBytes.{Keeps};
 ghost use Rattle.hc_parting.specs.Ends.{EndsSplit};
 
 use crate::filling::{Stop, chosen, fill};
-use crate::folder::{Place, manifest_name, part_name, place_of, table_name};
-use crate::manifest::{entry_line, head_line};
+use crate::folder::{PART, Place, TABLE, manifest_name, name_in, place_of};
+use crate::manifest::{head_line, put_entry};
 use hc_auditing::{Trouble, opened, printed, said};
 use hc_history::Verdict;
-use hc_split::{Outlet, Parts, SplitFault};
+use hc_split::{Extent, Families, Outlet, Parts, SplitFault};
 use hc_transcript::{Format, RecordFault};
 use std::alloc::{AllocError, Global};
 use std::fs::File;
@@ -108,10 +108,18 @@ fn done<R: Files + AllocGlobal>(rt: &R, order: SplitOrder<'_>) -> Result<(), Uns
 {
     let place = free_place(rt, order)?;
     let (format, parts) = parts_of(rt, order)?;
-    if place == Place::Free {
-        fs::create_dir(rt, order.dir).map_err(Unsplit::Output)?;
-    }
-    let mut outlets = outlets_in(rt, order, format)?;
+    written(rt, order, place, parts, format)
+}
+
+// Writes the parts, and what they are.
+fn written<R: Files + AllocGlobal>(
+    rt: &R,
+    order: SplitOrder<'_>,
+    place: Place,
+    parts: Parts,
+    format: Format,
+) -> Result<(), Unsplit> {
+    let mut outlets = outlets_in(rt, order, place, format)?;
     filled(rt, order, parts, format, &mut outlets)?;
     noted(rt, order, outlets)
 }
@@ -142,10 +150,21 @@ fn parts_of<R: Files + AllocGlobal>(
         Err(error) => return Err(Unsplit::Input(Trouble::Device(error))),
     };
     match chosen(rt.alloc(), &mut input) {
-        Ok((format, families)) => Ok((format, families.parted(order.parts as usize)?)),
+        Ok((format, families)) => parted(format, families, order),
         Err(Stop::Trouble(trouble)) => Err(Unsplit::Input(trouble)),
         Err(Stop::Fault(fault)) => Err(unsplit_by(fault)),
     }
+}
+
+fn parted(
+    format: Format,
+    families: Families,
+    order: SplitOrder<'_>,
+) -> Result<(Format, Parts), Unsplit>
+    requires { 0 < order.parts }
+{
+    let parts = families.parted(order.parts as usize)?;
+    Ok((format, parts))
 }
 
 // Why a recording isn't split, in which that was met.
@@ -164,33 +183,49 @@ fn unsplit_by(fault: SplitFault) -> Unsplit {
 fn outlets_in<R: Files + AllocGlobal>(
     rt: &R,
     order: SplitOrder<'_>,
+    place: Place,
     format: Format,
 ) -> Result<Vec<Outlet<BufWriter<R::File>>>, Unsplit> {
+    if place == Place::Free {
+        fs::create_dir(rt, order.dir).map_err(Unsplit::Output)?;
+    }
     let mut outlets = Vec::new(rt.alloc());
     for number in 1..=order.parts as usize {
-        let outlet = outlet_in(rt, order.dir, number, format)?;
-        if outlets.push(outlet).is_err() {
-            return Err(Unsplit::Input(Trouble::Memory));
-        }
+        put_outlet(rt, order.dir, number, format, &mut outlets)?;
     }
     Ok(outlets)
 }
 
-fn outlet_in<R: Files + AllocGlobal>(
+fn put_outlet<R: Files + AllocGlobal>(
     rt: &R,
     dir: &str,
     number: usize,
     format: Format,
-) -> Result<Outlet<BufWriter<R::File>>, Unsplit> {
-    let text = new_file(rt, part_name(rt.alloc(), dir, number)?.as_str())?;
-    let table = new_file(rt, table_name(rt.alloc(), dir, number)?.as_str())?;
-    Outlet::new(format, text, table).map_err(Unsplit::Output)
+    outlets: &mut Vec<Outlet<BufWriter<R::File>>>,
+) -> Result<(), Unsplit> {
+    let text = new_file(rt, dir, number, PART)?;
+    let table = new_file(rt, dir, number, TABLE)?;
+    match Outlet::new(format, text, table) {
+        Ok(outlet) => match outlets.push(outlet) {
+            Ok(()) => Ok(()),
+            Err(_) => Err(Unsplit::Input(Trouble::Memory)),
+        },
+        Err(error) => Err(Unsplit::Output(error)),
+    }
 }
 
-// A file that is made, which wasn't there, behind a buffer.
-fn new_file<R: Files + AllocGlobal>(rt: &R, name: &str) -> Result<BufWriter<R::File>, Unsplit> {
-    let file = File::create_new(rt, name).map_err(Unsplit::Output)?;
-    BufWriter::new(rt.alloc(), file).map_err(Unsplit::Output)
+// A file of the part of that number that is made, which wasn't there, behind a buffer.
+fn new_file<R: Files + AllocGlobal>(
+    rt: &R,
+    dir: &str,
+    number: usize,
+    ending: &str,
+) -> Result<BufWriter<R::File>, Unsplit> {
+    let name = name_in(rt.alloc(), dir, number, ending)?;
+    match File::create_new(rt, name.as_str()) {
+        Ok(file) => BufWriter::new(rt.alloc(), file).map_err(Unsplit::Output),
+        Err(error) => Err(Unsplit::Output(error)),
+    }
 }
 
 // Puts the records into their parts.
@@ -219,23 +254,46 @@ fn noted<R: Files + AllocGlobal>(
     outlets: Vec<Outlet<BufWriter<R::File>>>,
 ) -> Result<(), Unsplit> {
     let text = manifest_of(rt.alloc(), outlets)?;
-    let name = manifest_name(rt.alloc(), order.dir)?;
-    let mut file = File::create_new(rt, name.as_str()).map_err(Unsplit::Output)?;
+    let mut file = manifest_in(rt, order.dir)?;
     printed(text.as_str(), &mut file).map_err(Unsplit::Output)
+}
+
+// The file that says what the parts are, which is made.
+fn manifest_in<R: Files + AllocGlobal>(rt: &R, dir: &str) -> Result<R::File, Unsplit> {
+    let name = manifest_name(rt.alloc(), dir)?;
+    File::create_new(rt, name.as_str()).map_err(Unsplit::Output)
 }
 
 // The text that says what the parts are, which are closed.
 fn manifest_of<W: Write + Drop>(alloc: Global, outlets: Vec<Outlet<W>>) -> Result<String, Unsplit> {
+    let parts = outlets.len();
     let mut entries = String::new(alloc);
+    let records = put_entries(outlets, &mut entries)?;
+    let mut text = head_line(alloc, parts, records)?;
+    text.push_str(entries.as_str())?;
+    Ok(text)
+}
+
+// Puts the line of each part behind a text, and answers how many records all of them have.
+fn put_entries<W: Write + Drop>(
+    outlets: Vec<Outlet<W>>,
+    text: &mut String,
+) -> Result<u64, Unsplit> {
     let mut records = 0u64;
     let mut number = 0usize;
     for outlet in outlets {
-        let extent = outlet.close().map_err(Unsplit::Output)?.extent();
-        records = records.saturating_add(extent.records);
         number = number.saturating_add(1);
-        entries.push_str(entry_line(alloc, number, &extent)?.as_str())?;
+        let extent = extent_of(outlet)?;
+        records = records.saturating_add(extent.records);
+        put_entry(number, &extent, text)?;
     }
-    let mut text = head_line(alloc, number, records)?;
-    text.push_str(entries.as_str())?;
-    Ok(text)
+    Ok(records)
+}
+
+// What a part has, which is closed.
+fn extent_of<W: Write + Drop>(outlet: Outlet<W>) -> Result<Extent, Unsplit> {
+    match outlet.close() {
+        Ok(tally) => Ok(tally.extent()),
+        Err(error) => Err(Unsplit::Output(error)),
+    }
 }

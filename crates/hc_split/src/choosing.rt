@@ -10,10 +10,17 @@ use hc_transcript::{Format, RecordFault};
 use std::alloc::Global;
 
 /// Reads a recording that comes in pieces, and takes in the families of its targets.
-#[derive(Drop)]
 pub struct FamilyReader {
     reader: TextReader,
     families: Families,
+}
+
+impl Drop for FamilyReader {
+    fn drop(self) {
+        let FamilyReader { reader, families } = self;
+        drop(reader);
+        drop(families);
+    }
 }
 
 impl FamilyReader {
@@ -61,11 +68,19 @@ impl FamilyReader {
 
     /// Ends the recording, and tells its format beside the families.
     pub fn finish(mut self) -> Result<(Format, Families), SplitFault> {
+        let format = self.end()?;
+        let FamilyReader { reader, families } = self;
+        drop(reader);
+        Ok((format, families))
+    }
+
+    // Ends the recording, and tells its format.
+    fn end(&mut self) -> Result<Format, SplitFault> {
         if let Err(fault) = self.reader.finish() {
             return Err(fault_at(&self.reader, fault));
         }
         match self.reader.format() {
-            Some(format) => Ok((format, self.families)),
+            Some(format) => Ok(format),
             None => Err(SplitFault::Broken(0, RecordFault::Torn)),
         }
     }

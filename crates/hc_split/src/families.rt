@@ -7,7 +7,8 @@ use crate::parts::Parts;
 use hc_head::Target;
 use hc_transcript::{Meaning, OwnedItem};
 use std::alloc::{AllocError, Global};
-use std::collections::{BTreeMap, BTreeSet};
+use std::collections::BTreeMap;
+use std::mem;
 
 /// The targets of a recording, by numbers, with the octets of their records, and which of them are of one family. A number
 /// leads to a lower one of its family, or to itself where it is the lowest.
@@ -113,17 +114,23 @@ impl Families {
     }
 
     /// Puts each family into one of so many parts: the heaviest first, each into the part that is the lightest then.
-    pub fn parted(self, count: usize) -> Result<Parts, AllocError>
+    pub fn parted(mut self, count: usize) -> Result<Parts, AllocError>
         requires { 0 < count }
         ensures { IfOk result (λ parts. parts.count ≡ count) }
     {
-        let alloc = self.alloc;
-        let roots = roots_of(alloc, self.leads.as_slice())?;
-        let weights = summed(alloc, roots.as_slice(), self.weights.as_slice())?;
-        let order = by_weight(alloc, weights.as_slice())?;
-        let given = given_out(alloc, order.as_slice(), roots.len(), count)?;
-        let parts = parts_by(alloc, roots.as_slice(), given.as_slice())?;
+        settle(self.leads.as_mut_slice());
+        gather(self.leads.as_slice(), self.weights.as_mut_slice());
+        let parts = self.parts_of_numbers(count)?;
         Ok(self.with_parts(parts, count))
+    }
+
+    // The part of each number, where each leads to the lowest one of its family, which weighs what all of it weighs.
+    fn parts_of_numbers(&self, count: usize) -> Result<Vec<usize>, AllocError> {
+        let order = by_weight(self.alloc, self.weights.as_slice())?;
+        let mut parts = vec![in self.alloc; 0usize; self.leads.len()]?;
+        give_out(self.alloc, order.as_slice(), count, parts.as_mut_slice())?;
+        follow(self.leads.as_slice(), parts.as_mut_slice());
+        Ok(parts)
     }
 
     fn with_parts(self, parts: Vec<usize>, count: usize) -> Parts
@@ -188,79 +195,84 @@ fn join(leads: &mut [usize], one: usize, other: usize) {
     lead(leads, other, lowest);
 }
 
-// The lowest number of the family of each.
-fn roots_of(alloc: Global, leads: &[usize]) -> Result<Vec<usize>, AllocError> {
-    let mut roots = Vec::new(alloc);
-    for lower in leads.iter() {
-        // A number leads to itself, or to a lower one, whose root is known.
-        let root = roots.get(*lower).copied().unwrap_or(*lower);
-        roots.push(root)?;
+// Puts a number at a place.
+fn put(numbers: &mut [usize], at: usize, number: usize) {
+    if let Some(place) = numbers.get_mut(at) {
+        *place = number;
     }
-    Ok(roots)
 }
 
-// What each family weighs, by its lowest number.
-fn summed(alloc: Global, roots: &[usize], weights: &[u64]) -> Result<Vec<u64>, AllocError> {
-    let mut sums = vec![in alloc; 0u64; roots.len()]?;
-    for (root, weight) in roots.iter().zip(weights.iter()) {
-        weigh(sums.as_mut_slice(), *root, *weight);
+// Lets each number lead to the lowest one of its family.
+fn settle(leads: &mut [usize]) {
+    for number in 0..leads.len() {
+        let lowest = root_of(leads, number);
+        put(leads, number, lowest);
     }
-    Ok(sums)
+}
+
+// Lets the lowest number of each family weigh what all of it weighs, and the others nothing.
+fn gather(leads: &[usize], weights: &mut [u64]) {
+    for (number, lowest) in leads.iter().enumerate() {
+        if *lowest != number {
+            let weight = taken(weights, number);
+            weigh(weights, *lowest, weight);
+        }
+    }
+}
+
+// What a number weighs, which weighs nothing from now on.
+fn taken(weights: &mut [u64], number: usize) -> u64 {
+    match weights.get_mut(number) {
+        Some(weight) => mem::replace(weight, 0),
+        None => 0,
+    }
 }
 
 // What each family weighs beside its lowest number, the lightest first.
 fn by_weight(alloc: Global, weights: &[u64]) -> Result<Vec<(u64, usize)>, AllocError> {
     let mut families = Vec::new(alloc);
-    for (root, weight) in weights.iter().enumerate() {
+    for (lowest, weight) in weights.iter().enumerate() {
         if *weight > 0 {
-            families.push((*weight, root))?;
+            families.push((*weight, lowest))?;
         }
     }
     families.sort()?;
     Ok(families)
 }
 
-// The part of each family, by its lowest number.
-fn given_out(
+// Puts the part of each family, of so many parts, where its lowest number stands.
+fn give_out(
     alloc: Global,
     families: &[(u64, usize)],
-    numbers: usize,
     count: usize,
-) -> Result<Vec<usize>, AllocError> {
-    let mut parts = vec![in alloc; 0usize; numbers]?;
-    let mut loads = no_loads(alloc, count)?;
-    for (weight, root) in families.iter().rev() {
-        let part = loaded(&mut loads, *weight)?;
-        if let Some(place) = parts.get_mut(*root) {
-            *place = part;
+    parts: &mut [usize],
+) -> Result<(), AllocError> {
+    let mut loads = vec![in alloc; 0u64; count]?;
+    for (weight, lowest) in families.iter().rev() {
+        let part = lightest(loads.as_slice());
+        weigh(loads.as_mut_slice(), part, *weight);
+        put(parts, *lowest, part);
+    }
+    Ok(())
+}
+
+// The first of the lightest.
+fn lightest(loads: &[u64]) -> usize {
+    let mut found = 0usize;
+    let mut least = u64::MAX;
+    for (part, load) in loads.iter().enumerate() {
+        if *load < least {
+            found = part;
+            least = *load;
         }
     }
-    Ok(parts)
+    found
 }
 
-// So many parts, each beside what it weighs, which is nothing yet.
-fn no_loads(alloc: Global, count: usize) -> Result<BTreeSet<(u64, usize)>, AllocError> {
-    let mut loads = BTreeSet::new(alloc);
-    for part in 0..count {
-        loads.insert((0u64, part))?;
+// Puts each number into the part of the lowest one of its family.
+fn follow(leads: &[usize], parts: &mut [usize]) {
+    for (number, lowest) in leads.iter().enumerate() {
+        let part = parts.get(*lowest).copied().unwrap_or(0);
+        put(parts, number, part);
     }
-    Ok(loads)
-}
-
-// The part that was the lightest, and weighs so much more now.
-fn loaded(loads: &mut BTreeSet<(u64, usize)>, weight: u64) -> Result<usize, AllocError> {
-    let Some((load, part)) = loads.pop_first() else {
-        return Ok(0);
-    };
-    loads.insert((load.saturating_add(weight), part))?;
-    Ok(part)
-}
-
-// The part of each number, which is that of its family.
-fn parts_by(alloc: Global, roots: &[usize], given: &[usize]) -> Result<Vec<usize>, AllocError> {
-    let mut parts = Vec::new(alloc);
-    for root in roots.iter() {
-        parts.push(given.get(*root).copied().unwrap_or(0))?;
-    }
-    Ok(parts)
 }

@@ -14,7 +14,7 @@ ghost use Rattle.hc_split.specs.Joined.{AllAreTold, AreTold, FindsLacking, IsFir
 use hc_history::{Counts, Reason};
 
 /// What is told of a part.
-#[derive(Clone, Copy, PartialEq, Eq)]
+#[derive(Clone, Copy)]
 pub enum Told {
     /// Its verdict is yes, with these counts.
     Right(Counts),
@@ -25,7 +25,7 @@ pub enum Told {
 }
 
 /// What that tells of the whole.
-#[derive(Clone, Copy, PartialEq, Eq)]
+#[derive(Clone, Copy)]
 pub enum Joined {
     /// The verdict is yes, with these counts.
     Right(Counts),

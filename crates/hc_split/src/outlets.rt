@@ -12,11 +12,19 @@ use std::io;
 use std::io::Write;
 
 /// Where the octets of a part go, and its table, which has the position in the whole of each of its records, a line each.
-#[derive(Drop)]
 pub struct Outlet<W> {
     text: W,
     table: W,
     tally: Tally,
+}
+
+impl<W: Drop> Drop for Outlet<W> {
+    fn drop(self) {
+        let Outlet { text, table, tally } = self;
+        drop(text);
+        drop(table);
+        drop(tally);
+    }
 }
 
 impl<W: Write + Drop> Outlet<W> {
@@ -49,9 +57,16 @@ impl<W: Write + Drop> Outlet<W> {
 
     /// Hands all octets on that wait in a buffer, and tells what has gone into the part.
     pub fn close(mut self) -> io::Result<Tally> {
+        self.flush()?;
+        let Outlet { text, table, tally } = self;
+        drop(text);
+        drop(table);
+        Ok(tally)
+    }
+
+    fn flush(&mut self) -> io::Result<()> {
         self.text.flush()?;
-        self.table.flush()?;
-        Ok(self.tally)
+        self.table.flush()
     }
 }
 

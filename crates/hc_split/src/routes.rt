@@ -16,7 +16,7 @@ use std::alloc::Global;
 use std::collections::BTreeMap;
 
 /// Why a record can't go into a part.
-#[derive(Clone, Copy, PartialEq, Eq)]
+#[derive(Clone, Copy)]
 pub enum RouteFault {
     /// It is a forward whose part isn't that of the exchange that it was made for.
     Apart,
@@ -27,10 +27,20 @@ pub enum RouteFault {
 }
 
 /// The part of each open exchange and of each open forward, by number.
-#[derive(Drop)]
 pub struct Routes {
     exchanges: BTreeMap<u64, usize>,
     forwards: BTreeMap<u64, usize>,
+}
+
+impl Drop for Routes {
+    fn drop(self) {
+        let Routes {
+            exchanges,
+            forwards,
+        } = self;
+        drop(exchanges);
+        drop(forwards);
+    }
 }
 
 impl Routes {

@@ -19,12 +19,25 @@ use std::alloc::Global;
 use std::io::Write;
 
 /// Puts the records of a transcript of that format, which comes in pieces, into their parts.
-#[derive(Drop)]
 pub struct Splitter {
     reader: TextReader,
     routes: Routes,
     parts: Parts,
     format: Format,
+}
+
+impl Drop for Splitter {
+    fn drop(self) {
+        let Splitter {
+            reader,
+            routes,
+            parts,
+            format: _,
+        } = self;
+        drop(reader);
+        drop(routes);
+        drop(parts);
+    }
 }
 
 impl Splitter {

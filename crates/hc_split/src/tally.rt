@@ -3,12 +3,24 @@
 use sha2::{Digest, Sha256};
 
 /// What a part has, as its octets and those of its table come.
-#[derive(Drop)]
 pub struct Tally {
     records: u64,
     octets: u64,
     text: Sha256,
     table: Sha256,
+}
+
+impl Drop for Tally {
+    fn drop(self) {
+        let Tally {
+            records: _,
+            octets: _,
+            text,
+            table,
+        } = self;
+        drop(text);
+        drop(table);
+    }
 }
 
 /// What a part has: records, octets, and the digests by SHA-256 of its octets and of its table.
@@ -53,11 +65,17 @@ impl Tally {
 
     /// What the part has.
     pub fn extent(self) -> Extent {
+        let Tally {
+            records,
+            octets,
+            text,
+            table,
+        } = self;
         Extent {
-            records: self.records,
-            octets: self.octets,
-            text: self.text.finalize(),
-            table: self.table.finalize(),
+            records,
+            octets,
+            text: text.finalize(),
+            table: table.finalize(),
         }
     }
 }
