@@ -188,6 +188,7 @@ fn report_in<'a>(alloc: Global, found: &ArgMatches<'a>) -> Result<Order<'a>, Ref
         strict: flag_in(found, "baseline-strict"),
         annotates: flag_in(found, "annotations"),
         junit: found.get_str("junit"),
+        html: flag_in(found, "html"),
     };
     let terms = audit_terms_in(alloc, found)?;
     Ok(Order::Report { file, terms, form })
@@ -421,6 +422,17 @@ pub fn without_baseline(alloc: Global) -> Result<Error, AllocError>
         command_named(alloc, Some("report")),
         ErrorKind::MissingRequiredArgument,
         "--baseline-strict needs --baseline <FILE>",
+    )
+}
+
+/// The error of a command line that asks for a document in HTML and for another form beside it.
+pub fn beside_html(alloc: Global) -> Result<Error, AllocError>
+    ensures { IfOk result (λ error. kind_of error ≡ ErrorKind.ArgumentConflict) }
+{
+    usage_error(
+        command_named(alloc, Some("report")),
+        ErrorKind::ArgumentConflict,
+        "--html goes without --json, --baseline, --junit and --annotations",
     )
 }
 
