@@ -25,6 +25,7 @@ use hc_monitor::Board;
 use hc_notices::Greeting;
 use hc_service::{CoreOptions, CoreSettings};
 use hc_sockets::{Ends, Health, Sockets, SocketsFault};
+use std::alloc::{AllocError, Global};
 use std::collections::hash_map::RandomState;
 use std::io;
 use std::io::Write;
@@ -130,8 +131,8 @@ where
     check_recording(rt, proxy.file())?;
     check_open_files(rt, limits)?;
     let sockets = new_sockets(system, proxy)?;
-    let addresses = format!(in rt.alloc(); "{}", sockets.addresses())?;
-    let status = format!(in rt.alloc(); "{}", sockets.status_addresses())?;
+    let addresses = copied(rt.alloc(), sockets.addresses())?;
+    let status = copied(rt.alloc(), sockets.status_addresses())?;
     let start = Opening {
         alloc: rt.alloc(),
         greeting: Greeting {
@@ -240,4 +241,9 @@ fn new_core<R: RandomSource + AllocGlobal>(
             reason: io::Error::other("a cache has room for 1 to 65536 connections"),
         }),
     }
+}
+
+/// A text of its own with the same in it.
+fn copied(alloc: Global, text: &str) -> Result<String, AllocError> {
+    format!(in alloc; "{text}")
 }

@@ -17,6 +17,9 @@ returns-in_err-sockets-clause-said g c = nothing_is_said (g.E.Write.contents c.a
 pub returns-in_err-addresses-clause-said : goal.returns-in_err-addresses-clause-said
 returns-in_err-addresses-clause-said g c = nothing_is_said (g.E.Write.contents c.args.faults.now)
 
+pub returns-in_err-status-clause-said : goal.returns-in_err-status-clause-said
+returns-in_err-status-clause-said g c = nothing_is_said (g.E.Write.contents c.args.faults.now)
+
 pub returns-in_err-served-clause-said : goal.returns-in_err-served-clause-said
 returns-in_err-served-clause-said g c = nothing_is_said (g.E.Write.contents c.args.faults.now)
 
