@@ -216,7 +216,8 @@ fn word_of(answer: &Result<(), ServeFault>) -> &'static str {
     match answer {
         Ok(()) => "served",
         Err(ServeFault::Memory) => "no memory",
-        Err(ServeFault::Listener(_)) => "listener failed",
+        Err(ServeFault::Listener { .. }) => "listener failed",
+        Err(ServeFault::Status(_)) => "status failed",
         Err(ServeFault::Origin(_)) => "origin not found",
         Err(ServeFault::OpenFiles { .. }) => "too few open files",
         Err(ServeFault::Unrecordable(_)) => "no file to record to",
