@@ -217,6 +217,7 @@ fn word_of(answer: &Result<(), ServeFault>) -> &'static str {
         Ok(()) => "served",
         Err(ServeFault::Memory) => "no memory",
         Err(ServeFault::Listener { .. }) => "listener failed",
+        Err(ServeFault::Status(_)) => "status failed",
         Err(ServeFault::Origin(_)) => "origin not found",
         Err(ServeFault::OpenFiles { .. }) => "too few open files",
         Err(ServeFault::Unrecordable(_)) => "no file to record to",
