@@ -20,7 +20,7 @@ ghost use Rattle.hc_arguments.specs.Tasks.{Asks, AsksBy, AsksIn, CanBeDone, IsRe
 ghost use Rattle.hc_arguments.specs.Tasks.Task.{ToAudit, ToConvert, ToExplain, ToProxy, ToReplay, ToReport, ToServe};
 
 use crate::cache::cache_in;
-use crate::command::{command, command_named};
+use crate::command::{command, command_named, report_command};
 use crate::order::{
     ExplainTerms, Order, ProxyLimits, ProxyPatience, Proxying, RecordTerms, ReportTerms, Serving,
 };
@@ -384,9 +384,9 @@ pub fn without_baseline(alloc: Global) -> Result<Error, AllocError>
     ensures { IfOk result (λ error. kind_of error ≡ ErrorKind.MissingRequiredArgument) }
 {
     usage_error(
-        command_named(alloc, Some("report")),
+        report_command(alloc),
         ErrorKind::MissingRequiredArgument,
-        "--baseline-strict needs --baseline <FILE>",
+        String::from_str(alloc, "--baseline-strict needs --baseline <FILE>"),
     )
 }
 
@@ -397,6 +397,6 @@ pub fn not_text(alloc: Global) -> Result<Error, AllocError>
     usage_error(
         command(alloc),
         ErrorKind::ValueValidation,
-        "invalid UTF-8 was detected in one or more arguments",
+        String::from_str(alloc, "invalid UTF-8 was detected in one or more arguments"),
     )
 }
