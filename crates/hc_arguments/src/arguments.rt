@@ -21,7 +21,7 @@ ghost use Rattle.hc_arguments.specs.Tasks.{Asks, AsksBy, AsksIn, AreAll, CanBeDo
 ghost use Rattle.hc_arguments.specs.Tasks.Task.{ToAudit, ToConvert, ToExplain, ToProxy, ToReplay, ToReport, ToServe};
 
 use crate::cache::cache_in;
-use crate::command::{command, command_named};
+use crate::command::{command, command_named, report_command};
 use crate::order::{
     ExplainTerms, Order, ProxyLimits, ProxyPatience, Proxying, RecordTerms, ReportTerms, Serving,
 };
@@ -419,9 +419,9 @@ pub fn without_baseline(alloc: Global) -> Result<Error, AllocError>
     ensures { IfOk result (λ error. kind_of error ≡ ErrorKind.MissingRequiredArgument) }
 {
     usage_error(
-        command_named(alloc, Some("report")),
+        report_command(alloc),
         ErrorKind::MissingRequiredArgument,
-        "--baseline-strict needs --baseline <FILE>",
+        String::from_str(alloc, "--baseline-strict needs --baseline <FILE>"),
     )
 }
 
@@ -430,9 +430,12 @@ pub fn beside_html(alloc: Global) -> Result<Error, AllocError>
     ensures { IfOk result (λ error. kind_of error ≡ ErrorKind.ArgumentConflict) }
 {
     usage_error(
-        command_named(alloc, Some("report")),
+        report_command(alloc),
         ErrorKind::ArgumentConflict,
-        "--html goes without --json, --baseline, --junit and --annotations",
+        String::from_str(
+            alloc,
+            "--html goes without --json, --baseline, --junit and --annotations",
+        ),
     )
 }
 
@@ -443,6 +446,6 @@ pub fn not_text(alloc: Global) -> Result<Error, AllocError>
     usage_error(
         command(alloc),
         ErrorKind::ValueValidation,
-        "invalid UTF-8 was detected in one or more arguments",
+        String::from_str(alloc, "invalid UTF-8 was detected in one or more arguments"),
     )
 }

@@ -155,8 +155,8 @@ pub(crate) fn command_named<'a>(
     }
 }
 
-// The command `report`, without the one above it.
-fn report_command<'a>(alloc: Global) -> Result<Command<'a>, AllocError>
+/// The command `report`, without the one above it.
+pub(crate) fn report_command<'a>(alloc: Global) -> Result<Command<'a>, AllocError>
     ensures { IsMade report result }
 {
     let bare = begun(

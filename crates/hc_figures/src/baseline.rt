@@ -9,16 +9,13 @@ ghost use Rattle.hc_figures.specs.declared.baseline.BaselineFault.TheVariants.{N
 use crate::tally::{count_under, sum_of};
 use serde_json::{Map, Value};
 use std::alloc::Global;
-use thiserror::Error;
 
 /// Why octets are no baseline.
-#[derive(Clone, Copy, Debug, Error)]
+#[derive(Clone, Copy)]
 pub enum BaselineFault {
     /// They are no report that has all wrong replies of a whole transcript.
-    #[error("it is no report that has all wrong replies of a whole transcript")]
     NoReport,
     /// Memory was refused.
-    #[error("out of memory")]
     Memory,
 }
 

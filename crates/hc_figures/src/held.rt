@@ -15,7 +15,6 @@ use std::alloc::{AllocError, Global};
 const MOST_KINDS: usize = 100;
 
 /// A kind of which some are counted.
-#[derive(Drop)]
 pub struct NamedKind {
     /// What kind.
     pub kind: String,
@@ -23,13 +22,39 @@ pub struct NamedKind {
     pub count: u64,
 }
 
+impl Drop for NamedKind {
+    fn drop(self) {
+        let NamedKind { kind, count: _ } = self;
+        drop(kind);
+    }
+}
+
 /// The first kinds of which some are counted, in the order of their texts.
-#[derive(Drop)]
 pub struct NamedKinds {
     /// These.
     pub named: Vec<NamedKind>,
     /// How many kinds more there are.
     pub more: u64,
+}
+
+impl Drop for NamedKinds {
+    fn drop(self) {
+        let NamedKinds { named, more: _ } = self;
+        drop(named);
+    }
+}
+
+impl NamedKinds {
+    // Adds a kind of which so many are counted, by its name where there is room.
+    fn add(&mut self, alloc: Global, kind: &str, count: u64) -> Result<(), AllocError> {
+        if self.named.len() >= MOST_KINDS {
+            self.more = self.more.saturating_add(1);
+            return Ok(());
+        }
+        let kind = String::from_str(alloc, kind)?;
+        self.named.push(NamedKind { kind, count })?;
+        Ok(())
+    }
 }
 
 impl Baseline {
@@ -104,27 +129,34 @@ fn kinds_of_more(
         named: Vec::new(alloc),
         more: 0,
     };
-    let Some(counts) = counts else {
-        return Ok(kinds);
-    };
-    for (kind, _count) in counts.iter() {
-        let kind = kind.as_str();
-        let other = match others {
-            Some(others) => count_under(others, kind),
-            None => 0,
-        };
-        let count = count_under(counts, kind).saturating_sub(other);
-        if count == 0 {
-            continue;
-        }
-        if kinds.named.len() < MOST_KINDS {
-            let kind = String::from_str(alloc, kind)?;
-            kinds.named.push(NamedKind { kind, count })?;
-        } else {
-            kinds.more = kinds.more.saturating_add(1);
-        }
+    if let Some(counts) = counts {
+        add_kinds(alloc, counts, others, &mut kinds)?;
     }
     Ok(kinds)
+}
+
+// Adds these kinds.
+fn add_kinds(
+    alloc: Global,
+    counts: &Map<String, Value>,
+    others: Option<&Map<String, Value>>,
+    kinds: &mut NamedKinds,
+) -> Result<(), AllocError> {
+    for (kind, _count) in counts.iter() {
+        let count = more_of(kind.as_str(), counts, others);
+        if count != 0 {
+            kinds.add(alloc, kind.as_str(), count)?;
+        }
+    }
+    Ok(())
+}
+
+// How many more there are of a kind by the one counts than by the others.
+fn more_of(kind: &str, counts: &Map<String, Value>, others: Option<&Map<String, Value>>) -> u64 {
+    match others {
+        Some(others) => fewer_of(kind, counts, others),
+        None => count_under(counts, kind),
+    }
 }
 
 // How many those counts have more, of all kinds together, than there are now.

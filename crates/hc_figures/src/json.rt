@@ -52,21 +52,24 @@ fn verdict_json(
     ensures { IfOk result (λ v. view v ≡ object_with (verdict_entries first ending)) }
 {
     let mut verdict = Object::new(alloc);
-    match (first, ending) {
-        (Some(wrong), _) => {
-            verdict.text("answer", "no");
-            put_wrong(wrong, &mut verdict);
-            verdict.into_value()
+    put_verdict(first, ending, &mut verdict);
+    verdict.into_value()
+}
+
+fn put_verdict(first: Option<WrongReply>, ending: Ending, object: &mut Object)
+    ensures { (all : Members) → Has object.old all → Has object.new (with_all (verdict_entries first ending) all) }
+{
+    if let Some(wrong) = first {
+        object.text("answer", "no");
+        put_wrong(wrong, object);
+        return;
+    }
+    match ending {
+        Ending::Broken(position, fault) => {
+            object.text("answer", "malformed");
+            put_break(position, fault, object);
         }
-        (None, Ending::Broken(position, fault)) => {
-            verdict.text("answer", "malformed");
-            put_break(position, fault, &mut verdict);
-            verdict.into_value()
-        }
-        (None, Ending::Whole) => {
-            verdict.text("answer", "yes");
-            verdict.into_value()
-        }
+        Ending::Whole => object.text("answer", "yes"),
     }
 }
 
@@ -74,15 +77,18 @@ fn ends_json(alloc: Global, ending: Ending) -> Result<Value, AllocError>
     ensures { IfOk result (λ v. view v ≡ object_with (end_entries ending)) }
 {
     let mut end = Object::new(alloc);
+    put_end(ending, &mut end);
+    end.into_value()
+}
+
+fn put_end(ending: Ending, object: &mut Object)
+    ensures { (all : Members) → Has object.old all → Has object.new (with_all (end_entries ending) all) }
+{
     match ending {
-        Ending::Whole => {
-            end.flag("whole", true);
-            end.into_value()
-        }
+        Ending::Whole => object.flag("whole", true),
         Ending::Broken(position, fault) => {
-            end.flag("whole", false);
-            put_break(position, fault, &mut end);
-            end.into_value()
+            object.flag("whole", false);
+            put_break(position, fault, object);
         }
     }
 }

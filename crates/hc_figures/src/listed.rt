@@ -11,7 +11,6 @@ use std::alloc::{AllocError, Global};
 const MOST_LISTED: usize = 1_000;
 
 /// A wrong reply that is listed.
-#[derive(Drop)]
 pub struct ListedReply {
     /// Where it stands, and why it is wrong.
     pub wrong: WrongReply,
@@ -19,8 +18,14 @@ pub struct ListedReply {
     pub request: ShownRequest,
 }
 
+impl Drop for ListedReply {
+    fn drop(self) {
+        let ListedReply { wrong: _, request } = self;
+        drop(request);
+    }
+}
+
 /// How many wrong replies there are, and the first of them.
-#[derive(Drop)]
 pub struct ListedReplies {
     /// How many there are, or the greatest number.
     pub count: u64,
@@ -29,6 +34,17 @@ pub struct ListedReplies {
     /// The first 1,000.
     pub listed: Vec<ListedReply>,
     ghost few: { vec_len listed ≤ MOST_LISTED },
+}
+
+impl Drop for ListedReplies {
+    fn drop(self) {
+        let ListedReplies {
+            count: _,
+            first: _,
+            listed,
+        } = self;
+        drop(listed);
+    }
 }
 
 impl ListedReplies {

@@ -1,7 +1,7 @@
 -- Values that a command takes, and those that it refuses.
 use Rattle.std.proofs.Common.{◌≡◌, ◌∙◌, ◌++◌, List, [], ◌∷◌, Option, None, Some, ap, cond, inl, inr, refl, sym, subst, true, false, Bool, codes, is_some, option_map}
 use Rattle.std.specs.Option.{option_map_or}
-use Rattle.std.specs.Prelude.{⊤}
+use Rattle.std.specs.Prelude.{⊤, Result, Ok, Err, IfOk, IfErr}
 use Rattle.clap.specs.Words.{Text}
 use Rattle.clap.specs.declared.error.ErrorKind.{ErrorKind}
 use Rattle.hc_history.specs.declared.settings.Settings.{Settings}
@@ -59,6 +59,14 @@ none_refused taken value entries Missing kind fine refuses is =
 none_refused taken value entries (Value row) kind fine refuses is =
     refused_is_not_fine (λ text. taken row.now.takes text) (value row.now.name.now) (cond row.now.required false true) refuses.is_refused
     (fine_among taken value entries (entry_of row.now) fine refuses.is_among)
+
+-- an error is of the kind by which it was made
+pub kind_told : {A B F G : Type 0} (kind_of : A → ErrorKind) (result : Result A F) (message : Result B G) (kind by : ErrorKind) (is : Option ErrorKind) → kind ≡ by
+    → IfOk result (λ error. kind_of error ≡ kind) → IfOk result (λ _. IfErr message (λ _. ⊥)) → IfOk message (λ _. is ≡ Some by)
+    → IfOk result (λ error. is ≡ Some (kind_of error))
+kind_told kind_of (Ok error) (Ok text) kind by is same told there says = says ∙ sym (ap (λ (k : ErrorKind). Some k) (told ∙ same))
+kind_told kind_of (Ok error) (Err fault) kind by is same told there says = absurd there
+kind_told kind_of (Err fault) message kind by is same told there says = tt
 
 -- ---- a value that isn't there
 

@@ -31,3 +31,11 @@ abbrev pub refused_kind : Refusal → Option ErrorKind
 refused_kind Memory = None
 refused_kind Missing = Some kind.MissingRequiredArgument
 refused_kind (Value row) = Some kind.ValueValidation
+
+-- ---- what private functions promise
+
+-- the kind of the error that says it; that of the want of memory is never said
+abbrev pub kind_by : Refusal → ErrorKind
+kind_by Memory = kind.OutOfMemory
+kind_by Missing = kind.MissingRequiredArgument
+kind_by (Value row) = kind.ValueValidation

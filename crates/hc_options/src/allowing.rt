@@ -26,7 +26,12 @@ pub(crate) struct AllowedWords {
 fn has_word(list: &[u8], word: &[u8]) -> bool
     ensures { result ≡ has_word list.now word.now }
 {
-    between_commas(list).any(|text| text == word)
+    for text in between_commas(list) {
+        if text == word {
+            return true;
+        }
+    }
+    false
 }
 
 fn is_word(text: &[u8]) -> bool
@@ -39,7 +44,12 @@ fn is_word(text: &[u8]) -> bool
 fn are_words(list: &[u8]) -> bool
     ensures { result ≡ list_all is_word (between_commas list.now) }
 {
-    between_commas(list).all(|text| is_word(text))
+    for text in between_commas(list) {
+        if !is_word(text) {
+            return false;
+        }
+    }
+    true
 }
 
 /// What a list of words allows, where each is one; `all` allows what each of them does.

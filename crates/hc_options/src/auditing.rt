@@ -144,6 +144,6 @@ pub fn not_text(alloc: Global) -> Result<Error, AllocError>
     usage_error(
         auditing_command(alloc),
         ErrorKind::ValueValidation,
-        "invalid UTF-8 was detected in one or more arguments",
+        String::from_str(alloc, "invalid UTF-8 was detected in one or more arguments"),
     )
 }

@@ -1,6 +1,6 @@
 //! Commands of a command line, built from rows.
 
-ghost use Rattle.std.specs.Prelude.{◌≡◌, false, map};
+ghost use Rattle.std.specs.Prelude.{◌≡◌, Ok, false, map};
 ghost use Rattle.clap.specs.Words.{App, new_app, rule_of, with_rule, with_subcommand};
 ghost use Rattle.hc_options.specs.Commands.{IsMade, audit, auditing, program, with_rules};
 ghost use Rattle.hc_options.specs.Rows.{row_rule};
@@ -102,7 +102,21 @@ pub fn with_subcommand<'a>(
     ensures { (app below : App) → IsMade app command.entry → IsMade below subcommand.entry
         → IsMade (with_subcommand app below.top) result }
 {
-    command?.subcommand(subcommand?)
+    match command {
+        Ok(command) => with_made(command, subcommand),
+        Err(error) => Err(error),
+    }
+}
+
+// The same of a command that was made.
+fn with_made<'a>(
+    command: Command<'a>,
+    subcommand: Result<Command<'a>, AllocError>,
+) -> Result<Command<'a>, AllocError>
+    ensures { (app below : App) → IsMade app (Ok command.entry) → IsMade below subcommand.entry
+        → IsMade (with_subcommand app below.top) result }
+{
+    command.subcommand(subcommand?)
 }
 
 // The argument or the option of a row.

@@ -76,7 +76,12 @@ pub(crate) fn between_commas(list: &[u8]) -> BetweenCommas<'_>
 fn are_tokens(list: &[u8]) -> bool
     ensures { result ≡ list_all is_token (between_commas list.now) }
 {
-    between_commas(list).all(|text| is_token(text))
+    for text in between_commas(list) {
+        if !is_token(text) {
+            return false;
+        }
+    }
+    true
 }
 
 /// The names of a list with commas between them, in lower case, where each of them is a token.

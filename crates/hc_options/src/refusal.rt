@@ -1,6 +1,6 @@
 //! Why a command line that has no fault of its form is refused all the same.
 
-ghost use Rattle.std.specs.Prelude.{◌≡◌, IfOk, Some};
+ghost use Rattle.std.specs.Prelude.{◌≡◌, IfErr, IfOk, Some};
 ghost use Rattle.clap.specs.Words.{kind_of};
 ghost use Rattle.hc_options.specs.declared.refusal.Refusal.TheVariants.{Memory};
 
@@ -21,7 +21,7 @@ pub enum Refusal {
 }
 
 impl Refusal {
-    ghost use Rattle.hc_options.specs.Refusals.{refused_kind};
+    ghost use Rattle.hc_options.specs.Refusals.{kind_by, refused_kind};
 
     /// The error that says it, with the usage of the command.
     pub fn error(
@@ -31,36 +31,58 @@ impl Refusal {
     ) -> Result<Error, AllocError>
         ensures { IfOk result (λ error. refused_kind self ≡ Some (kind_of error)) }
     {
-        let mut command = command?;
-        self.error_of(alloc, &mut command)
+        usage_error(command, self.kind(), self.message(alloc))
     }
 
-    // The same of a command that was made.
-    fn error_of(self, alloc: Global, command: &mut Command<'_>) -> Result<Error, AllocError>
-        ensures { IfOk result (λ error. refused_kind self ≡ Some (kind_of error)) }
+    // The kind of that error.
+    fn kind(self) -> ErrorKind
+        ensures { result ≡ kind_by self }
+    {
+        match self {
+            Refusal::Memory => ErrorKind::OutOfMemory,
+            Refusal::Missing => ErrorKind::MissingRequiredArgument,
+            Refusal::Value(_) => ErrorKind::ValueValidation,
+        }
+    }
+
+    // What it says; none where memory was refused.
+    fn message(self, alloc: Global) -> Result<String, AllocError>
+        ensures { IfOk result (λ _. refused_kind self ≡ Some (kind_by self)) }
     {
         match self {
             Refusal::Memory => Err(AllocError),
-            Refusal::Missing => {
-                command.error(ErrorKind::MissingRequiredArgument, "a value is missing")
-            }
-            Refusal::Value(row) => {
-                command.error(ErrorKind::ValueValidation, row.complaint(alloc)?.as_str())
-            }
+            Refusal::Missing => String::from_str(alloc, "a value is missing"),
+            Refusal::Value(row) => row.complaint(alloc),
         }
     }
 }
 
-/// The error of this kind, with the usage of the command.
+/// The error of this kind and with this message, with the usage of the command.
 pub fn usage_error(
     command: Result<Command<'_>, AllocError>,
     kind: ErrorKind,
-    message: &str,
+    message: Result<String, AllocError>,
 ) -> Result<Error, AllocError>
-    ensures { IfOk result (λ error. kind_of error ≡ kind) }
+    ensures kind { IfOk result (λ error. kind_of error ≡ kind) }
+    // There is one only where there is a message.
+    ensures message { IfOk result (λ _. IfErr message (λ _. ⊥)) }
 {
     let mut command = command?;
-    command.error(kind, message)
+    error_of(&mut command, kind, message)
+}
+
+fn error_of(
+    command: &mut Command<'_>,
+    kind: ErrorKind,
+    message: Result<String, AllocError>,
+) -> Result<Error, AllocError>
+    ensures kind { IfOk result (λ error. kind_of error ≡ kind) }
+    ensures message { IfOk result (λ _. IfErr message (λ _. ⊥)) }
+{
+    match message {
+        Ok(text) => command.error(kind, text.as_str()),
+        Err(error) => Err(error),
+    }
 }
 
 impl From<AllocError> for Refusal {

@@ -1,6 +1,7 @@
 //! Arguments and options of a command line, as rows of a table.
 
 use std::alloc::{AllocError, Global};
+use std::fmt::Write;
 
 /// How the value of a row is given.
 #[derive(Clone, Copy)]
@@ -60,22 +61,19 @@ pub struct Row {
 }
 
 impl Takes {
-    // Why a value is none of these.
-    fn complaint(self, alloc: Global) -> Result<String, AllocError> {
-        let text = match self {
-            Takes::Number(least, most) => {
-                return format!(in alloc; "not a decimal from {least} to {most}");
-            }
-            Takes::Size(0) => {
-                "not a decimal, by itself or with k, m or g behind it, from 0 to 999999999999"
-            }
-            Takes::Size(least) => {
-                let mebibytes = least / 1_048_576;
-                return format!(in alloc;
-                    "not a decimal, by itself or with k, m or g behind it, from {mebibytes}m to 999999999999"
-                );
-            }
-            Takes::AnyText => "not text",
+    // Writes why a value is none of these.
+    fn put_complaint(self, text: &mut String) -> Result<(), AllocError> {
+        match self {
+            Takes::Number(least, most) => write!(text, "not a decimal from {least} to {most}"),
+            Takes::Size(least) => put_size_complaint(least, text),
+            other => text.push_str(other.complaint()),
+        }
+    }
+
+    // The same of those of which it is one text.
+    fn complaint(self) -> &'static str {
+        match self {
+            Takes::AnyText | Takes::Number(_, _) | Takes::Size(_) => "not text",
             Takes::FileName => "it is read twice, so it can't be standard input",
             Takes::Count => "not a decimal from 0 to 2147483648",
             Takes::AllowedWords => {
@@ -90,23 +88,50 @@ impl Takes {
                 "not a decimal from 1 to 999999999999, nor two with a hyphen between them, of which the first is no \
                 greater"
             }
-        };
-        String::from_str(alloc, text)
+        }
     }
+}
+
+// Writes why a value is no size of so many octets or more.
+fn put_size_complaint(least: u64, text: &mut String) -> Result<(), AllocError> {
+    text.push_str("not a decimal, by itself or with k, m or g behind it, from ")?;
+    if least == 0 {
+        return text.push_str("0 to 999999999999");
+    }
+    let mebibytes = least / 1_048_576;
+    write!(text, "{mebibytes}m to 999999999999")
 }
 
 impl Row {
     /// What a usage error says of a value that it doesn't take.
     pub(crate) fn complaint(&self, alloc: Global) -> Result<String, AllocError> {
-        let why = self.takes.complaint(alloc)?;
-        let name = self.name;
-        let value = self.value;
-        match (self.kind, self.required) {
-            (Kind::Argument, true) => { format!(in alloc; "invalid value for '<{name}>': {why}") }
-            (Kind::Argument, false) => { format!(in alloc; "invalid value for '[{name}]': {why}") }
-            (Kind::Flag | Kind::Valued | Kind::Repeated, _) => {
-                format!(in alloc; "invalid value for '--{name} <{value}>': {why}")
-            }
+        let mut text = String::new(alloc);
+        self.put_complaint(&mut text)?;
+        Ok(text)
+    }
+
+    fn put_complaint(&self, text: &mut String) -> Result<(), AllocError> {
+        text.push_str("invalid value for '")?;
+        self.put_name(text)?;
+        text.push_str("': ")?;
+        self.takes.put_complaint(text)
+    }
+
+    // Writes what help calls it.
+    fn put_name(&self, text: &mut String) -> Result<(), AllocError> {
+        match self.kind {
+            Kind::Argument => put_argument(self.name, self.required, text),
+            Kind::Flag | Kind::Valued | Kind::Repeated => put_option(self.name, self.value, text),
         }
     }
+}
+
+fn put_argument(name: &str, required: bool, text: &mut String) -> Result<(), AllocError> {
+    text.push(if required { '<' } else { '[' })?;
+    text.push_str(name)?;
+    text.push(if required { '>' } else { ']' })
+}
+
+fn put_option(name: &str, value: &str, text: &mut String) -> Result<(), AllocError> {
+    write!(text, "--{name} <{value}>")
 }
