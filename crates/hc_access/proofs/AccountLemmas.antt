@@ -1,5 +1,5 @@
 -- Replies are accounted for, one after another.
-use Rattle.std.proofs.Common.{◌≡◌, ◌+◌, ◌-◌, ◌^◌, ◌<◌, ℕ, min, List, length, take, get_or, zero, suc, refl, sym, ap, ◌∙◌, arith, subst}
+use Rattle.std.proofs.Common.{◌≡◌, ◌+◌, ◌-◌, ◌^◌, ◌<◌, ◌≤◌, ℕ, min, List, length, take, take_all, get_or, zero, suc, refl, sym, ap, ◌∙◌, arith, subst}
 use Rattle.std.proofs.lemmas.List.Sums.{sum_by_more}
 use Rattle.hc_service.specs.declared.action.Action.{Action}
 use Rattle.hc_access.specs.declared.replies.Replies.{Replies}
@@ -35,3 +35,6 @@ action_more actions place action old mid new is there first then =
     let split : replies_in (take (place + 1) actions) ≡ replies_in (take place actions) + reply_in action =
     sum_by_more reply_in actions place action there ∙ ap (λ (a : Action). replies_in (take place actions) + reply_in a) (sym is) in
     subst (λ (n : ℕ). Accounts n old new) (sym split) (and_more _ _ old mid new first then)
+
+pub all_accounted : (actions : List Action) (place : ℕ) (old new : Replies) → length actions ≤ place → Accounts (replies_in (take place actions)) old new → Accounts (replies_in actions) old new
+all_accounted actions place old new long = subst (λ (seen : List Action). Accounts (replies_in seen) old new) (take_all place actions long)

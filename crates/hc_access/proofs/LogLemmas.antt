@@ -1,8 +1,9 @@
 -- What is written of lines, and what isn't.
-use Rattle.std.proofs.Common.{◌≡◌, ◌⊎◌, inl, inr, ◌+◌, ◌-◌, ◌^◌, ℕ, min, List, [], ◌∷◌, ◌++◌, length, take, drop, Option, refl, ap, ◌∙◌, append_assoc, take-append-drop, rules}
+use Rattle.std.proofs.Common.{◌≡◌, ◌⊎◌, inl, inr, ◌+◌, ◌-◌, ◌^◌, ℕ, min, List, [], ◌∷◌, ◌++◌, length, take, drop, Option, refl, ap, subst, ◌∙◌, append_assoc, take-append-drop, rules}
 use Rattle.std.proofs.lemmas.List.{take_rest}
 use Rattle.std.proofs.KnownBytes.{Appends-nil, Appends-trans}
 use Rattle.std.specs.Io.KnownBytes.{Appends}
+use Rattle.hc_access.specs.declared.lines.Lines.{Lines}
 use Rattle.hc_access.specs.Writing.{Mends, PutsAllBut, PutsLines, WritesSome, feeds_in}
 
 -- octets move from the rest to what was written
@@ -47,3 +48,10 @@ both_written old mid new lines lost before behind first then is = record {
   appended = Appends-trans old mid new _ _ first.appended then.appended;
   lost = is ∙ ap (λ n. min (before + n) (2 ^ 64 - 1)) then.lost_is;
 }
+
+-- neither the lines nor their count have changed before they are written
+pub written_behind : (old mid new : Option (List ℕ)) (lines lines' : Lines) (lost before before' behind : ℕ) → Mends old mid → lines' ≡ lines → before' ≡ before → PutsLines mid new lines'.octets.items lost
+    → behind ≡ min (before' + lost) (2 ^ 64 - 1) → WritesSome old new lines.octets.items before behind
+written_behind old mid new lines lines' lost before before' behind first same counted then is =
+    both_written old mid new lines.octets.items lost before behind first (subst (λ (l : Lines). PutsLines mid new l.octets.items lost) same then)
+    (is ∙ ap (λ n. min (n + lost) (2 ^ 64 - 1)) counted)

@@ -33,7 +33,7 @@ use Rattle.hc_attended.specs.Attended.{ClientIsSeenTo, IsAttended, IsClientAtten
 use Rattle.hc_attended.specs.Notes.{KeepsNotes, due_of, is_due_up_to, is_of_link, no_deadline, no_link}
 use Rattle.hc_attended.specs.Tending.{ChangesClient, ChangesForward, ChangesGuest, ChangesTurnedAway, IsClientMarked, IsClientSeenTo, IsClientTimed, IsForwardInTime, IsForwardSeenTo, IsLingeringAttended, Stands, TendsClient, TurnsOnly}
 use Rattle.hc_attended.proofs.ClientLemmas.{behind_there, failed_in_turn, fresh_in_turn, looks_less, seen_by_notes, seen_in_turn, seen_without_lingering}
-use Rattle.hc_attended.proofs.NoteLemmas.{due_forgotten, due_given, due_moved, first_given, first_kept, notes_then, notes_wider}
+use Rattle.hc_attended.proofs.NoteLemmas.{due_forgotten, due_given, due_moved, first_given, first_kept, notes_same, notes_then, notes_wider}
 use Rattle.hc_attended.proofs.TendLemmas.{client_changes_none, client_changes_then, client_only, lingers_less, made_of, tends_then}
 use Rattle.hc_attended.proofs.StillLemmas.{client_still, forward_still, lingerer_still, still_due}
 
@@ -263,3 +263,10 @@ client_connected {S} times tick since stream before after agenda mid agenda_afte
       seen = fresh_in_turn n tick stream since client agenda_after (its_own (get nat_cmp after.clients.links n) client (IsFreshClient stream since) there fresh) (kept.turns (to_client n) refl (first_given (to_client n) agenda mid notes noted));
       due = timed none client there;
     }) (was (first.refused noted))
+
+-- one who wasn't opened is as before
+pub client_refused : {S : Type 0} (times : Times) (tick : ℕ) (before after : Peers S) (agenda : Agenda) (n : ℕ) → ChangesClient n before after
+    → get nat_cmp after.clients.links n ≡ get nat_cmp before.clients.links n → (agenda.refused ≡ false → IsAttended times tick before agenda) → agenda.refused ≡ false
+    → IsAttended times tick after agenda
+client_refused times tick before after agenda n only same was none =
+    client_changed times tick before after agenda agenda n only (notes_wider (λ link apart. refl) (λ link apart. refl) (λ timeout m apart. refl) (notes_same agenda)) (λ client is. (was none).clients n client (sym same ∙ is)) (was none)

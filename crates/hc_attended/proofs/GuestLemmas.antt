@@ -70,3 +70,10 @@ module _ {S : Type 0} (times : Times) (tick : ℕ) (before after : Peers S) (age
   turned_away_kept n only same was =
       turned_away_changed times tick before after agenda agenda n only (all_noted (due_of (same_timeout timeouts.TurnedAway) n) agenda) (λ stream is.
       let kept = there_too (get nat_cmp before.turned_away.links n) (get nat_cmp after.turned_away.links n) stream same is in was.turned_away n kept.0 kept.1) was
+
+-- one that didn't become a guest is as before
+pub guest_refused : {S : Type 0} (times : Times) (tick : ℕ) (before after : Peers S) (agenda : Agenda) (n : ℕ) → ChangesGuest n before after
+    → get nat_cmp after.guests.table.links n ≡ get nat_cmp before.guests.table.links n → (agenda.refused ≡ false → IsAttended times tick before agenda) → agenda.refused ≡ false
+    → IsAttended times tick after agenda
+guest_refused times tick before after agenda n only same was none =
+    guest_changed times tick before after agenda agenda n only (all_noted (due_of (same_timeout timeouts.Guest) n) agenda) (λ guest is. (was none).guests n guest (sym same ∙ is)) (was none)

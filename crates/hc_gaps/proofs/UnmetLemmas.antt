@@ -1,8 +1,9 @@
 -- Members that are named one after another.
 use Rattle.std.proofs.Common.{◌≡◌, ◌<◌, ◌≤◌, ◌++◌, ◌+◌, ◌-◌, ◌^◌, min, ℕ, Bool, true, cond, List, [], ◌∷◌, length, map, ap, sym, subst, ◌∙◌}
-use Rattle.std.proofs.lemmas.List.{map-append, length-map}
-use Rattle.std.specs.Prelude.{All, filter}
+use Rattle.std.proofs.lemmas.List.{append-nil, map-append, length-map}
+use Rattle.std.specs.Prelude.{All, filter, not}
 use Rattle.hc_update.specs.declared.stored.Stored.{Stored}
+use Rattle.hc_history.specs.Allowing.{is_met_or_normalized}
 use Rattle.hc_history.specs.Claims.{Claim}
 use Rattle.hc_gaps.specs.declared.selecting.Selection.{Selection}
 use Rattle.hc_gaps.specs.declared.selecting.UnmetMember.{UnmetMember}
@@ -28,6 +29,13 @@ named claim state members member found new one room items more is are =
           (subst (λ (m : List ℕ). IsMember claim state m one) (sym is.member_is) is) are.each;
       first = record { first = same ∙ first.first; others = more ∙ first.others };
     }
+
+-- one that is met is passed over
+pub passed_over : (claim : Claim) (state : Stored) (members : List (List ℕ)) (member : List ℕ) (found : Selection) → is_met_or_normalized claim state member ≡ true
+    → AreNamed claim state members found → AreNamed claim state (members ++ filter (is_unmet claim state) (member ∷ [])) found
+passed_over claim state members member found met are =
+    subst (λ (b : Bool). AreNamed claim state (members ++ cond (not b) (member ∷ []) []) found) (sym met)
+    (subst (λ (ms : List (List ℕ)). AreNamed claim state ms found) (sym (append-nil members)) are)
 
 -- one that is unmet is named
 pub taken : (claim : Claim) (state : Stored) (members : List (List ℕ)) (member : List ℕ) (found new : Selection) (one : UnmetMember)

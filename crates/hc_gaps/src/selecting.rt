@@ -56,25 +56,40 @@ pub fn unmet_members(
         more: 0,
     };
     for member in state.fields.members(b"vary") {
-        if is_met_or_normalized(alloc, claim, state, member)? {
-            continue;
-        }
-        if NAMED <= found.unmet.len() {
-            found.more = found.more.saturating_add(1);
-            continue;
-        }
-        let (answered, asked) = (&state.request.fields, &claim.request.fields);
-        let is_form = means_the_same(alloc, member, answered, asked, true)?;
-        found.unmet.push(UnmetMember {
-            member: Octets::from_slice(alloc, member)?,
-            is_name: is_token(member) && member != b"*".as_slice(),
-            is_form,
-        })?;
+        found.take(alloc, claim, state, member)?;
     }
     Ok(found)
 }
 
 impl Selection {
+    // Takes in a member: one that doesn't select the request is named, or counted where there is no room.
+    fn take(
+        &mut self,
+        alloc: Global,
+        claim: &ReplyClaim<'_>,
+        state: &Stored,
+        member: &[u8],
+    ) -> Result<(), AllocError>
+        ensures { OnOk result ((members : List (List ℕ)) → AreNamed claim.now state.now members self.old
+            → AreNamed claim.now state.now (members ++ filter (is_unmet claim.now state.now) (member.now ∷ [])) self.new) }
+    {
+        if is_met_or_normalized(alloc, claim, state, member)? {
+            return Ok(());
+        }
+        if NAMED <= self.unmet.len() {
+            self.more = self.more.saturating_add(1);
+            return Ok(());
+        }
+        let (answered, asked) = (&state.request.fields, &claim.request.fields);
+        let is_form = means_the_same(alloc, member, answered, asked, true)?;
+        self.unmet.push(UnmetMember {
+            member: Octets::from_slice(alloc, member)?,
+            is_name: is_token(member) && member != b"*".as_slice(),
+            is_form,
+        })?;
+        Ok(())
+    }
+
     // Whether Vary has `*`.
     fn has_star(&self) -> bool
         ensures { result ≡ has_star self.now }

@@ -194,7 +194,6 @@ fn named_after(reason: Reason, claim: &ReplyClaim<'_>) -> u64
 impl<'a> Wrong<'a> {
     /// What is wrong with a reply for that reason, of which those are the candidates, by what is remembered of the
     /// records before it. It fails only where memory is refused.
-    #[tactic(auto, using(crate::proofs::NamingLemmas::named_is, crate::proofs::NamingLemmas::none_named, crate::proofs::NamingLemmas::breaks_wrong, crate::proofs::NamingLemmas::one_named))]
     pub fn read<I: Index>(
         alloc: Global,
         index: &'a I,

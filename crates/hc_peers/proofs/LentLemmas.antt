@@ -1,5 +1,5 @@
 -- A client's link, or a forward's, is lent and written to: what that means for all links together.
-use Rattle.std.proofs.Common.{◌≡◌, ℕ, ◌==◌, Bool, true, false, cond, List, ◌∷◌, Some, None, Result, Ok, Err, refl, sym, subst, arith}
+use Rattle.std.proofs.Common.{◌≡◌, ℕ, ◌==◌, Bool, true, false, ◌&&◌, not, ◌+◌, ◌≤◌, cond, List, ◌∷◌, Some, None, Result, Ok, Err, refl, sym, subst, arith}
 use Rattle.std.specs.BTreeMap.{BTreeMap, Updates, WritesThrough, get}
 use Rattle.std.specs.Ordering.{nat_cmp}
 use Rattle.std.specs.declared.alloc.AllocError.{AllocError}
@@ -14,20 +14,22 @@ use Rattle.hc_order.specs.declared.occurrence.Reason.{Reason}
 use Rattle.hc_order.specs.declared.occurrence.Reason.TheVariants.{Peer, Replies, Reads, Stop, Late, Reset, Held, Displaced, Abandoned}
 use Rattle.hc_order.specs.declared.receiver.Receiver.TheVariants.{Client as to_client, Origin as to_origin}
 use Rattle.hc_order.specs.Log.{Move}
-use Rattle.hc_order.specs.Log.Move.{Heard as Told, Sent}
+use Rattle.hc_order.specs.Log.Move.{Closed, Heard as Told, Sent}
 use Rattle.hc_order.specs.Mirrors.{is_connected, is_underway}
 use Rattle.hc_order.specs.Passages.{Passage, closing, ending, hearing, passage_of, sending}
 use Rattle.hc_peers.specs.declared.client.Client.{Client}
 use Rattle.hc_peers.specs.declared.forward.Forward.{Forward}
 use Rattle.hc_peers.specs.declared.peers.Peers.{Peers}
 use Rattle.hc_peers.specs.Clients.{AreClients, IsClient, IsClientAt}
+use Rattle.hc_agenda.specs.Places.{has_place}
+use Rattle.hc_peers.specs.Lingering.{is_lingering}
 use Rattle.hc_peers.specs.Forwards.{AreForwards, IsForward, IsForwardAt, has_link}
 use Rattle.hc_peers.specs.Heard.{HeardInTurn, IsAnswerOf, MayBeHeard, NoAnswer, told}
 use Rattle.hc_peers.specs.Keeping.{Hears, KeepsPeers}
 use Rattle.hc_peers.specs.Peers.{ArePeers, Bounds, HasFewLinks}
 use Rattle.hc_peers.specs.Shown.{ShowNoMore}
 use Rattle.hc_peers.proofs.LinkLemmas.{lent_unlinked, taken_out}
-use Rattle.hc_peers.proofs.PlaceLemmas.{few_still, same_clients, same_guests, same_places}
+use Rattle.hc_peers.proofs.PlaceLemmas.{few_linked, few_still, same_clients, same_guests, same_places}
 use Rattle.hc_peers.proofs.ShownLemmas.{lent_shown}
 use Rattle.hc_peers.proofs.TableLemmas as tables
 
@@ -109,6 +111,22 @@ module _ {S : Type 0} (has_given has_got : S → List ℕ → Type 0) (old : Pee
 
   pub client_shown : Stays (has_got client.flow.stream) (has_got client'.flow.stream) → (log : List Move) → ShowNoMore has_got old log → ShowNoMore has_got with_client log
   client_shown stays log s = (lent_shown has_got old.clients.links table' k client client' there wrote stays log s.0, s.1)
+
+  -- its connection is closed, and so many are counted still
+  pub client_closes : (connected : ℕ) → ((opened closed : ℕ) → opened ≤ old.connected + closed → opened ≤ connected + (1 + closed))
+      → ((passage : Passage) → IsClient has_given has_got client passage → IsClient has_given has_got client' (closing passage))
+      → (bounds : Bounds) (log : List Move) → ArePeers has_given has_got bounds old log
+      → ArePeers has_given has_got bounds (record old { clients = record { links = table' }; connected = connected }) (Closed (to_client k) ∷ log)
+  client_closes connected count keeps bounds log t = record {
+    clients = tables.moved (IsClientAt has_given has_got) to_client old.clients.links table' k (Some client') lent log (Closed (to_client k) ∷ log) closing (λ n. refl)
+        (keeps (passage_of (to_client k) log) (its log t.clients)) t.clients;
+    forwards = t.forwards;
+    guests = t.guests;
+    last = t.last;
+    count = count _ _ t.count;
+    few = few_still bounds old (record old { clients = record { links = table' }; connected = connected }) (omega (arith, wrote.2)) (same_guests old) (λ f linked. linked) (λ f lingers. lingers)
+        (same_places old.places) t.few;
+  }
 
   -- octets are sent there
   pub client_sent : {T : Type 0} (result : Result T AllocError) (octets : List ℕ) → ((passage : Passage) → IsClient has_given has_got client passage → KeepsSent (IsClient has_given has_got client') result octets passage)
@@ -253,6 +271,21 @@ module _ {S : Type 0} (has_given has_got : S → List ℕ → Type 0) (old : Pee
     forward_gone (End reason) is keeps table'' updates bounds log t = absurd (cc)
     forward_gone (Lost reason) is keeps table'' updates bounds log t = forward_lost has_given has_got with_forward table'' k updates reason bounds log (forward_told keeps bounds log t)
     forward_gone Nothing is keeps table'' updates bounds log t = absurd (cc)
+
+  -- it may gain a link, where it has a place in which none lingers
+  pub forward_linked : true ≡ (has_place k old.places && not (is_lingering k old.lingering)) → ((passage : Passage) → IsForward has_given has_got forward passage → IsForward has_given has_got forward' passage)
+      → KeepsPeers has_given has_got old with_forward
+  forward_linked own keeps = record {
+    tells = λ bounds log t. record {
+      clients = t.clients;
+      forwards = tables.lent_stays (IsForwardAt has_given has_got) old.forwards.links table' k forward forward' there wrote to_origin keeps log t.forwards;
+      guests = t.guests;
+      last = t.last;
+      count = t.count;
+      few = few_linked bounds old t.few k (record { links = table' }) (tables.lent_others old.forwards.links table' k forward forward' there wrote) own;
+    };
+    shown = λ log s. s;
+  }
 
   pub forward_opens : (result : Result Heard AllocError) → ((passage : Passage) → IsForward has_given has_got forward passage → IsHeardOpen passage.is_open passage.is_ended result)
       → (bounds : Bounds) (log : List Move) → ArePeers has_given has_got bounds old log → IsHeardOpen (is_underway k log) (passage_of (to_origin k) log).is_ended result

@@ -7,6 +7,7 @@ pub mod LentLemmas
 pub mod LinkLemmas
 pub mod PeerLemmas
 pub mod PlaceLemmas
+pub mod ReachLemmas
 pub mod ReadLemmas
 pub mod ShownLemmas
 pub mod TableLemmas

@@ -1,5 +1,5 @@
 -- An entry of a table of links changes, and what passed at all other links stays.
-use Rattle.std.proofs.Common.{◌≡◌, ℕ, ◌==◌, Bool, true, false, cond, List, Option, Some, IsSome, refl, sym, ap, ◌∙◌, subst, arith}
+use Rattle.std.proofs.Common.{◌≡◌, ℕ, ◌==◌, Bool, true, false, cond, List, Option, Some, None, IsSome, refl, sym, ap, ◌∙◌, subst, arith}
 use Rattle.std.proofs.lemmas.Bool.Decides.{nat_tests}
 use Rattle.std.specs.BTreeMap.{BTreeMap, Updates, WritesThrough, get, is_at}
 use Rattle.std.specs.Cmp.{unsigned_tied}
@@ -7,7 +7,7 @@ use Rattle.std.specs.Ordering.{nat_cmp}
 use Rattle.hc_order.specs.declared.receiver.Receiver.{Receiver}
 use Rattle.hc_order.specs.Log.{Move}
 use Rattle.hc_order.specs.Passages.{Passage, passage_of}
-use Rattle.hc_peers.specs.Tables.{AreAt}
+use Rattle.hc_peers.specs.Tables.{AreAt, KeepsOthers}
 
 pub same_number : (k n : ℕ) → (k == n) ≡ true → k ≡ n
 same_number k n e = grind (arith, nat_tests, e)
@@ -60,3 +60,20 @@ module _ {V : Type 0} (Is : Option V → Passage → Type 0) (table table' : BTr
   -- no move
   pub lent_stays : (link : ℕ → Receiver) → ((passage : Passage) → Is (Some value) passage → Is (Some value') passage) → (log : List Move) → AreAt Is link table log → AreAt Is link table' log
   lent_stays link keeps log are = stayed Is link table table' k (Some value') lent log (keeps (passage_of (link k) log) (at_number Is link table k (Some value) (sym there) log are)) are
+
+-- all others are as they were
+pub lent_others : {V : Type 0} (table table' : BTreeMap ℕ V) (k : ℕ) (value value' : V) → Some value ≡ get nat_cmp table k → WritesThrough nat_cmp (nat_cmp k) table value' table' → KeepsOthers k table table'
+lent_others table table' k value value' there wrote n differ =
+    (wrote.3 (subst IsSome there refl)).0 n ∙ ap (λ (b : Bool). cond b (Some value') (get nat_cmp table n)) differ
+
+same_is : (k : ℕ) → (k == k) ≡ true
+same_is k = grind (arith, nat_tests)
+
+-- there it is as it was written
+pub lent_at : {V : Type 0} (table table' : BTreeMap ℕ V) (k : ℕ) (value value' : V) → Some value ≡ get nat_cmp table k → WritesThrough nat_cmp (nat_cmp k) table value' table' → get nat_cmp table' k ≡ Some value'
+lent_at table table' k value value' there wrote =
+    put table table' k (Some value') (wrote.3 (subst IsSome there refl)) k ∙ ap (λ (b : Bool). cond b (Some value') (get nat_cmp table k)) (same_is k)
+
+-- what was taken out is there no more
+pub taken_at : {V : Type 0} (table table' : BTreeMap ℕ V) (k : ℕ) → Updates nat_cmp table table' k None → get nat_cmp table' k ≡ None
+taken_at table table' k updates = put table table' k None updates k ∙ ap (λ (b : Bool). cond b None (get nat_cmp table k)) (same_is k)

@@ -96,7 +96,7 @@ fn spread_of(wrong: &Wrong<'_>) -> Option<Spread> {
 }
 
 impl Group {
-    // The group of a wrong reply alone, before it has a target.
+    // The group of a reply at that position which is wrong so, before it has a target.
     fn of(
         alloc: Global,
         position: u64,
@@ -268,24 +268,23 @@ impl Found {
         target: String,
         past: &Past,
     ) -> Result<(), AllocError> {
-        self.take_wrong(judged, reason, target, past)
+        let group = self.group_alone(judged, reason, past)?;
+        add(&mut self.groups, group, target)
     }
 
-    // The same where both live equally long.
-    fn take_wrong<'a, I: Index>(
+    // The group of a wrong reply alone, before it has a target.
+    fn group_alone<'a, I: Index>(
         &mut self,
         judged: &JudgedReply<'a, I>,
         reason: Reason,
-        target: String,
         past: &'a Past,
-    ) -> Result<(), AllocError> {
+    ) -> Result<Group, AllocError> {
         let wrong = match judged.claim() {
             Some(claim) => self.judge_again(judged, reason, &claim, past)?,
             None => Wrong::unasked(),
         };
         self.suspect_all(&wrong)?;
-        let group = Group::of(self.alloc, judged.position, reason, wrong)?;
-        add(&mut self.groups, group, target)
+        Group::of(self.alloc, judged.position, reason, wrong)
     }
 
     // What is wrong with the reply that claims that, which is judged once more by what might make it right.

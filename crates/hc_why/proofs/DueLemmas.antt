@@ -1,6 +1,7 @@
 -- What is told of a window by the ends of forwards that are remembered is so by the items.
-use Rattle.std.proofs.Common.{◌≡◌, ℕ, Bool, true, false, nat_lt, List, [], ◌∷◌, ◌++◌, Option, Some, None, refl, sym, ap, ◌∙◌, subst}
+use Rattle.std.proofs.Common.{◌≡◌, ◌+◌, ◌<◌, ℕ, Bool, true, false, nat_lt, List, [], ◌∷◌, ◌++◌, Option, Some, None, drop, get_or, length, map, refl, sym, ap, ◌∙◌, subst}
 use Rattle.std.specs.Prelude.{◌&&◌, bytes_eq, if◌then◌else◌}
+use Rattle.std.proofs.lemmas.List.{drop_more}
 use Rattle.hc_head.specs.declared.head.ResponseHead.{ResponseHead}
 use Rattle.hc_head.specs.Statuses.{is_error_status}
 use Rattle.hc_head.specs.Targets.{same_target}
@@ -13,12 +14,22 @@ use Rattle.hc_history.specs.Claims.{Claim}
 use Rattle.hc_history.specs.Forwarded.{asks_the_same, carries, carries_response}
 use Rattle.hc_history.specs.Windows.{is_forward_of, may_be_for}
 use Rattle.hc_why.specs.Due.{DueAt, Told, due_by, is_asked_for, is_in_window, none_told, told_after, told_by, told_by_all, told_in_window}
-use Rattle.hc_past.specs.Remembered.{EndSeen, end_by, ends_of, ends_with, name_behind}
+use Rattle.hc_past.specs.declared.past.End.{End}
+use Rattle.hc_past.specs.Remembered.{EndSeen, end_by, end_seen, ends_of, ends_with, name_behind}
 
 pub told_append : (claim : Claim) (told : Told) (one other : List EndSeen)
     → told_by_all claim told (one ++ other) ≡ told_by_all claim (told_by_all claim told one) other
 told_append claim told [] other = refl
 told_append claim told (end ∷ one) other = told_append claim (told_after claim told end) one other
+
+-- behind an end more
+pub end_told : (claim : Claim) (before after all : Told) (ends : List End) (i : ℕ) (d : End) → i < length ends
+    → after ≡ told_after claim before (end_seen (get_or ends i d))
+    → told_by_all claim before (map end_seen (drop i ends)) ≡ all → told_by_all claim after (map end_seen (drop (i + 1) ends)) ≡ all
+end_told claim before after all ends i d within is was =
+    ap (λ (told : Told). told_by_all claim told (map end_seen (drop (i + 1) ends))) is
+    ∙ sym (ap (λ (left : List End). told_by_all claim before (map end_seen left)) (drop_more ends i d within))
+    ∙ was
 
 -- ---- one item more, by tests of it: whether it stands behind the request (w), is of the target (s), was made for the exchange (m), is what the reply carries (c), is an error (e), and asks the same (a)
 

@@ -1,6 +1,7 @@
 -- What is known of a reply that is explained.
-use Rattle.std.proofs.Common.{◌≡◌, ℕ, suc, ◌≤◌, Bool, true, false, List, Option, Some, None, IfSome, IsSome, refl, sym, ap, ◌∙◌, subst, arith, ◌⊎◌, inl, inr}
-use Rattle.std.specs.Prelude.{unwrap_or, not, ◌||◌, if◌then◌else◌}
+use denote.Ref.{Bor}
+use Rattle.std.proofs.Common.{map, ◌≡◌, ℕ, suc, ◌≤◌, Bool, true, false, List, Option, Some, None, IfSome, IsSome, refl, sym, ap, ◌∙◌, subst, arith, ◌⊎◌, inl, inr}
+use Rattle.std.specs.Prelude.{is_some, option_copied, unwrap_or, not, ◌||◌, if◌then◌else◌}
 use Rattle.std.specs.Option.{option_map}
 use Rattle.std.proofs.lemmas.Bool.{cases_lt}
 use Rattle.hc_head.specs.declared.head.ResponseHead.{ResponseHead}
@@ -22,7 +23,13 @@ use Rattle.hc_history.specs.Reused.{Pass, collapsed_count, filter_count, forward
 use Rattle.hc_history.specs.Right.{CarriesStored, IsFinding, IsFoundBy, IsWrongForwarded, is_judged_collapsed}
 use Rattle.hc_why.specs.declared.explaining.Way.TheVariants.{Forwarded, Collapsed}
 use Rattle.hc_past.specs.declared.shortfalls.Nearest.{Nearest}
-use Rattle.hc_why.specs.Explaining.{AgreesWith, named_since, names_one, way_by}
+use Rattle.hc_head.specs.declared.head.Target.{Target}
+use Rattle.hc_past.specs.declared.past.Past.{Past}
+use Rattle.hc_past.specs.Remembered.{EndSeen, end_seen}
+use Rattle.hc_why.specs.declared.changes.Ends.{Ends}
+use Rattle.hc_why.specs.declared.explaining.Way.{Way}
+use Rattle.hc_why.specs.Due.{name_of_end, place_among, place_of_end, validated_in}
+use Rattle.hc_why.specs.Explaining.{AgreesWith, carries_other, named_since, names_one, way_by}
 use Rattle.hc_past.specs.Naming.{GetsFurthest, HasNone, IsNamed, first_after, reason_told}
 use Rattle.hc_past.proofs.NamingLemmas.{breaks_none, breaks_some, it_passes, it_passes_too, none_named, wrong_hit}
 
@@ -110,6 +117,36 @@ of_finding finding candidate P is = go (names_one finding)
 pub still_named : (gone : Bool) (P : Nearest → Type 0) (old new : Option Nearest) → new ≡ (if gone then None else old) → IfSome old P → IfSome new P
 still_named true P old new is was = subst (λ (o : Option Nearest). IfSome o P) (sym is) tt
 still_named false P old new is was = subst (λ (o : Option Nearest). IfSome o P) (sym is) was
+
+-- none is named still where none was, and else the one that was named first
+pub named_first : {X : Type 0} (a b : Bool) (new old first : Option X) → a ≡ b → new ≡ (if b then None else old) → old ≡ first → new ≡ (if a then None else first)
+named_first {X} a b new old first same is was = is ∙ ap (λ (o : Option X). if b then None else o) was ∙ ap (λ (c : Bool). if c then None else first) (sym same)
+
+-- what is found, the way and the ends say whether it carries what came in its window
+pub carries_same : (f g : Finding) (w x : Way) (d e : Ends) → f ≡ g → w ≡ x → d ≡ e
+    → carries_other f w (is_some (name_of_end (option_copied d.carried))) ≡ carries_other g x (is_some (name_of_end (option_copied e.carried)))
+carries_same f g w x d e found way ends =
+    ap (λ (z : Finding). carries_other z w (is_some (name_of_end (option_copied d.carried)))) found
+    ∙ ap (λ (y : Way). carries_other g y (is_some (name_of_end (option_copied d.carried)))) way
+    ∙ ap (λ (k : Ends). carries_other g x (is_some (name_of_end (option_copied k.carried)))) ends
+
+validated_if : (o : Option Nearest) (place : Option ℕ) (target : Target) (ends : List EndSeen) → place ≡ place_among target (validated_in o) ends
+    → IfSome o (λ nearest. place ≡ place_among target nearest.state.now.validated_at ends)
+validated_if None place target ends is = tt
+validated_if (Some nearest) place target ends is = is
+
+-- the end by which the response was validated last is so still, of the same claim, past and ends
+pub validated_still : (gone : Bool) (old new : Option Nearest) (k l : Claim) (p q : Bor Past) (d e : Ends) → new ≡ (if gone then None else old)
+    → k ≡ l → p ≡ q → d ≡ e → place_of_end (option_copied e.validator) ≡ place_among l.target (validated_in old) (map end_seen q.now.ends.items)
+    → IfSome new (λ nearest. place_of_end (option_copied d.validator) ≡ place_among k.target nearest.state.now.validated_at (map end_seen p.now.ends.items))
+validated_still gone old new k l p q d e stays claims pasts ends is =
+    still_named gone (λ (nearest : Nearest). place_of_end (option_copied d.validator) ≡ place_among k.target nearest.state.now.validated_at (map end_seen p.now.ends.items))
+    old new stays
+    (validated_if old (place_of_end (option_copied d.validator)) k.target (map end_seen p.now.ends.items)
+    (ap (λ (x : Ends). place_of_end (option_copied x.validator)) ends
+    ∙ is
+    ∙ ap (λ (c : Claim). place_among c.target (validated_in old) (map end_seen q.now.ends.items)) (sym claims)
+    ∙ ap (λ (r : Bor Past). place_among k.target (validated_in old) (map end_seen r.now.ends.items)) (sym pasts)))
 
 -- what is so of none is so of it still, if it was
 pub both_still : (gone : Bool) (P : Option Nearest → Option Finding → Type 0) (old new : Option Nearest) (was is : Option Finding)

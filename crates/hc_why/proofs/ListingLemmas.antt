@@ -15,6 +15,11 @@ pushed P n xs ys x is all one = subst (All P) (sym is) (All-drop P n (xs ++ x �
 pub of_none : {X : Type 0} (P : X → Type 0) (xs : List X) → xs ≡ [] → All P xs
 of_none P xs is = subst (All P) (sym is) (All-nil P)
 
+pub both : (a b : Bool) → a ≡ true → b ≡ true → (a && b) ≡ true
+both true true a b = refl
+both true false a b = absurd cc
+both false b a c = absurd cc
+
 pub all_three : (a b c : Bool) → a ≡ true → b ≡ true → c ≡ true → (a && (b && c)) ≡ true
 all_three true true true a b c = refl
 all_three true true false a b c = absurd cc

@@ -6,7 +6,7 @@ ghost use Rattle.hc_head.specs.Targets.{same_target};
 ghost use Rattle.hc_history.specs.Claims.{Claim};
 ghost use Rattle.hc_why.specs.Demanding.{are_safe, has_unselected, is_by_safe};
 ghost use Rattle.hc_why.specs.Due.{due_at, due_by, is_after_error, name_of_end, none_told, place_among, place_of_end, told_after, told_by, told_by_all, told_of, validated_in};
-ghost use Rattle.hc_why.specs.Listing.{AreNotAbout, IsNotAbout, IsNotAboutOf, Lists, is_of, is_since_it, is_unselected, is_unstored};
+ghost use Rattle.hc_why.specs.Listing.{AreNotAbout, IsNotAbout, IsNotAboutOf, Lists, is_of, is_since_it, is_unselected};
 ghost use Rattle.hc_past.specs.Remembered.{end_seen};
 ghost use Rattle.hc_past.specs.declared.shortfalls.Nearest.{Nearest};
 
@@ -234,6 +234,20 @@ impl<'a> NotAboutIt<'a> {
     }
 }
 
+// Whether the reply is wrong by responses that may not be stored: where it was collapsed by those in its window.
+fn is_by_unstored(why: Option<Why>, is_in_window: bool) -> bool {
+    match why {
+        Some(Why::NoResponse(_)) => true,
+        Some(Why::NotCollapsible) => is_in_window,
+        _ => false,
+    }
+}
+
+// Whether it is wrong by what came in its window.
+fn is_by_window(why: Option<Why>) -> bool {
+    matches!(why, Some(Why::NotForwarded(_)))
+}
+
 // Which is the later one of those that are looked for: that end of a forward, if it is one, or else the one before.
 fn latest<'a>(is_one: bool, end: &'a End, before: Option<&'a End>) -> Option<&'a End>
     ensures { name_of_end (option_copied result) ≡ (if is_one then Some end.now.named else name_of_end (option_copied before.entry)) }
@@ -407,26 +421,28 @@ impl<'a> Ends<'a> {
         ensures lists { is_of known.now.claim end.now ≡ true → Lists known.now.claim known.now.nearest self.old → OnOk result (Lists known.now.claim known.now.nearest self.new) }
     {
         let is_in_window = known.claim.since < end.named.position;
-        let is_unstored = end.forbids.is_some();
-        match known.why {
-            Some(Why::NoResponse(_)) if is_unstored => self.take_unstored(&known.claim, end),
-            Some(Why::NotCollapsible) if is_unstored && is_in_window => {
-                self.take_unstored(&known.claim, end)
-            }
-            Some(Why::NotForwarded(_)) if is_in_window => self.window.push(end),
-            _ => Ok(()),
+        if is_by_unstored(known.why, is_in_window) {
+            return self.take_unstored(&known.claim, end);
         }
+        if !is_in_window {
+            return Ok(());
+        }
+        if is_by_window(known.why) {
+            return self.window.push(end);
+        }
+        Ok(())
     }
 
-    // Takes in one of the target that may not be stored.
+    // Takes in one of the target, if it may not be stored.
     fn take_unstored(&mut self, claim: &ReplyClaim<'_>, end: &'a End) -> Result<(), AllocError>
         ensures told { OnOk result (told_of self.new ≡ told_of self.old) }
-        ensures lists { (nearest : Option Nearest) → is_unstored claim.now end.now ≡ true → Lists claim.now nearest self.old
+        ensures lists { (nearest : Option Nearest) → is_of claim.now end.now ≡ true → Lists claim.now nearest self.old
             → OnOk result (Lists claim.now nearest self.new) }
     {
-        if end.is_given(claim) {
-            self.given = Some(end);
-        }
+        let Some(_) = end.forbids else {
+            return Ok(());
+        };
+        self.given = latest(end.is_given(claim), end, self.given);
         self.unstored.push(end)
     }
 

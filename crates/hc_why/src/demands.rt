@@ -4,7 +4,7 @@ ghost use Rattle.std.specs.Prelude.{◌≡◌, option_copied};
 ghost use Rattle.std.specs.Option.{option_map};
 ghost use Rattle.hc_gaps.specs.Demanding.{first_in, renewed_in};
 ghost use Rattle.hc_gaps.specs.Forms.{leaves_out};
-ghost use Rattle.hc_why.specs.Demanding.{IsAskedByResponse, IsAskedOf, IsDemanded, demanded_sections, forbids_given, is_breach, is_for_it, is_not_forwarded, keep_all, keeps_all, may_be, unstored_sections, unstored_told};
+ghost use Rattle.hc_why.specs.Demanding.{IsAskedByResponse, IsAskedOf, IsDemanded, demanded_sections, forbidden_sections, forbids_given, is_breach, is_for_it, is_not_forwarded, keep_all, keeps_all, may_be, unstored_sections, unstored_told};
 
 use crate::changes::{INVALIDATED, INVALIDATED_BY_SAFE};
 use crate::explaining::Explanation;
@@ -150,18 +150,8 @@ impl Explanation<'_> {
             return UNRECORDED;
         };
         let forbids = self.forbids_given(forbids, end.status);
-        if forbids.is_nothing() {
-            return NO_RESPONSE;
-        }
-        let others = Forbids {
-            private: false,
-            ..forbids
-        };
-        match self.leaves_out(b"private", &heads.response.fields) {
-            true if others.is_nothing() => PRIVATE_FIELDS,
-            true => others.demand(),
-            false => forbids.demand(),
-        }
+        let leaves_out = self.leaves_out(b"private", &heads.response.fields);
+        demand_by(forbids, leaves_out)
     }
 
     // Whether those of a response say the directive of fields alone, of which the reply has none.
@@ -200,6 +190,28 @@ impl Explanation<'_> {
             Some(validator) => self.was_validated(nearest) && validator.may_answer(&self.claim),
             None => false,
         }
+    }
+}
+
+// What is asked of a hit by what forbids to store the response that it gives: where that is private of fields alone, which the
+// reply leaves out, by the rest.
+fn demand_by(forbids: Forbids, leaves_out: bool) -> Demand
+    ensures { result.sections.now ≡ forbidden_sections forbids leaves_out }
+{
+    if forbids.is_nothing() {
+        return NO_RESPONSE;
+    }
+    if !leaves_out {
+        return forbids.demand();
+    }
+    let others = Forbids {
+        private: false,
+        ..forbids
+    };
+    if others.is_nothing() {
+        PRIVATE_FIELDS
+    } else {
+        others.demand()
     }
 }
 

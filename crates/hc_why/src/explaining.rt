@@ -300,14 +300,24 @@ impl<'a> Explanation<'a> {
         )?;
         self.fill_why()?;
         self.ends = Ends::read(self)?;
-        if self.carries_answer() {
-            self.nearest = None;
-            self.with_setting = None;
-        }
+        self.name_none();
         self.fill_permitted()?;
         self.stale = self.stale_of();
         self.came = self.came_of()?;
         Ok(())
+    }
+
+    // Names no response where it carries what came in its window.
+    fn name_none(&mut self)
+        ensures leaves { Leaves self.old self.new }
+        ensures ends { self.new.ends ≡ self.old.ends }
+        ensures named { self.new.nearest ≡ (if carries_answer self.old then None else self.old.nearest) }
+        ensures with_setting { self.new.with_setting ≡ (if carries_answer self.old then None else self.old.with_setting) }
+    {
+        if self.carries_answer() {
+            self.nearest = None;
+            self.with_setting = None;
+        }
     }
 
     // Whether it is right, went forward, and carries what came in its window.

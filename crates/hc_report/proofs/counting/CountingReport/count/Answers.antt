@@ -1,4 +1,4 @@
-use Rattle.std.proofs.Common.{◌∙◌, ℕ, ap}
+use Rattle.std.proofs.Common.{◌∙◌, ℕ, ap, refl}
 use Rattle.hc_transcript.specs.History.{exchange_of}
 use Rattle.hc_history.specs.declared.wrong.WrongReply.{WrongReply}
 use Rattle.hc_audit.specs.Hearing.{item_judged}
@@ -15,3 +15,9 @@ returns-clause-heard g c = λ h counted behind.
     let kind_is = c.as_str.ensures.value ∙ c.in_ok-kind.ensures ∙ kind_shown (exchange_of judged.exchange h) c.in_ok-request.request why (c.in_ok-request.ensures h behind.index) in
     counted_one c.args.self.now new (item_judged judged) h why (made judged.position) c.as_str.result.now counted (ap made behind.position) kind_is c.in_ok-push.ensures.items
     (λ kinds has. c.in_ok-take.ensures kinds has)
+
+pub returns-clause-report : goal.returns-clause-report
+returns-clause-report g c = refl
+
+pub returns-clause-all : goal.returns-clause-all
+returns-clause-all g c = c.in_ok-push.ensures.items
