@@ -3,6 +3,7 @@
 use crate::comparing::{Judged, compare};
 use crate::playing::perform;
 use crate::telling::say_played;
+use crate::watching::say_counted;
 use hc_cases::{Ask, Case, Unanswered, unescaped};
 use hc_crowd_world::{Script, script_in, script_of};
 use hc_fields::decimal;
@@ -20,13 +21,24 @@ impl Ask for Crowds {
             question,
             about,
         } = *case;
-        if question == "seeds" {
-            return say_seeds(alloc, Seeds::of(about)?, out);
+        match question {
+            "seeds" => say_seeds(alloc, Seeds::of(about)?, out),
+            "counted" => say_counted(alloc, about, out),
+            _ => say_schedule(alloc, question, about, out),
         }
-        let script = script_about(alloc, about)?;
-        let mut played = perform(alloc, script)?;
-        say_played(alloc, question, &mut played, out)
     }
+}
+
+/// Writes what comes of a schedule.
+fn say_schedule(
+    alloc: Global,
+    question: &str,
+    about: &[Vec<u8>],
+    out: &mut String,
+) -> Result<(), Unanswered> {
+    let script = script_about(alloc, about)?;
+    let mut played = perform(alloc, script)?;
+    say_played(alloc, question, &mut played, out)
 }
 
 /// The schedule that is written down, or that of a seed.

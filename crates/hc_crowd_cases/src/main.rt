@@ -11,6 +11,7 @@ mod playing;
 mod replies;
 mod telling;
 mod verdict;
+mod watching;
 mod wrongs;
 
 use crate::answers::Crowds;

@@ -1,7 +1,8 @@
 //! Families of numbers in the text format of Prometheus.
 
 ghost use Rattle.std.specs.Prelude.{◌≡◌, ◌++◌, OnOk};
-ghost use Rattle.hc_monitor.specs.Exposition.{family_text, labelled_text, number_text, sample_text, single_text};
+ghost use Rattle.std.specs.List.{flat_map};
+ghost use Rattle.hc_monitor.specs.Exposition.{family_text, labelled_text, number_line, number_text, sample_text, single_text};
 
 use std::alloc::AllocError;
 use std::io::Write;
@@ -17,26 +18,13 @@ pub(crate) struct Family<'a> {
     pub(crate) help: &'a str,
 }
 
-/// A family whose numbers only grow.
-pub(crate) fn counter<'a>(name: &'a str, help: &'a str) -> Family<'a>
-    ensures { (result.name ≡ name.entry) × (result.help ≡ help.entry) }
-{
-    Family {
-        name,
-        kind: "counter",
-        help,
-    }
-}
-
-/// A family whose numbers grow and fall.
-pub(crate) fn gauge<'a>(name: &'a str, help: &'a str) -> Family<'a>
-    ensures { (result.name ≡ name.entry) × (result.help ≡ help.entry) }
-{
-    Family {
-        name,
-        kind: "gauge",
-        help,
-    }
+/// A number, alone in its family.
+#[derive(Clone, Copy)]
+pub(crate) struct Number<'a> {
+    /// The family.
+    pub(crate) family: Family<'a>,
+    /// The number.
+    pub(crate) value: u64,
 }
 
 /// Puts what a family is at the end.
@@ -55,15 +43,34 @@ fn push_number(name: &str, value: u64, out: &mut Vec<u8>) -> Result<(), AllocErr
 }
 
 /// Puts a family of one number at the end.
-pub(crate) fn push_single(
-    family: Family<'_>,
-    value: u64,
-    out: &mut Vec<u8>,
-) -> Result<(), AllocError>
+fn push_single(family: Family<'_>, value: u64, out: &mut Vec<u8>) -> Result<(), AllocError>
     ensures { OnOk result (out.new.items ≡ out.old.items ++ single_text family.entry value) }
 {
     push_family(family, out)?;
     push_number(family.name, value, out)
+}
+
+/// Puts families of one number each at the end.
+pub(crate) fn push_numbers(numbers: &[Number<'_>], out: &mut Vec<u8>) -> Result<(), AllocError>
+    ensures { OnOk result (out.new.items ≡ out.old.items ++ flat_map number_line numbers.now) }
+{
+    for number in numbers {
+        push_single(number.family, number.value, out)?;
+    }
+    Ok(())
+}
+
+/// Puts a family of two numbers at the end, which are told apart by one label.
+pub(crate) fn push_both(
+    family: Family<'_>,
+    label: &str,
+    one: (&str, u64),
+    other: (&str, u64),
+    out: &mut Vec<u8>,
+) -> Result<(), AllocError> {
+    push_family(family, out)?;
+    push_labelled(family.name, label, one.0, one.1, out)?;
+    push_labelled(family.name, label, other.0, other.1, out)
 }
 
 /// Puts a number of a family at the end, which is told apart by one label. The label's value has neither quotes nor backslashes

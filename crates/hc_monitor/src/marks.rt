@@ -92,18 +92,28 @@ fn first_parameter(text: &[u8]) -> &[u8] {
     }
 }
 
+/// What a parameter says of how a reply came about.
+const SAID: [(&[u8], Way); 8] = [
+    (b"hit", Way::Hit),
+    (b"collapsed", Way::Collapsed),
+    (b"fwd=uri-miss", Way::UriMiss),
+    (b"fwd=vary-miss", Way::VaryMiss),
+    (b"fwd=stale", Way::Stale),
+    (b"fwd=method", Way::Method),
+    (b"fwd=request", Way::Request),
+    (b"fwd=bypass", Way::Bypass),
+];
+
 /// What is known by one parameter more.
 fn refined(way: Way, parameter: &[u8]) -> Way {
-    match parameter.trim_ascii() {
-        b"hit" => Way::Hit,
-        b"collapsed" => Way::Collapsed,
-        b"fwd=uri-miss" => Way::UriMiss,
-        b"fwd=vary-miss" => Way::VaryMiss,
-        b"fwd=stale" => Way::Stale,
-        b"fwd=method" => Way::Method,
-        b"fwd=request" => Way::Request,
-        b"fwd=bypass" => Way::Bypass,
-        parameter if way == Way::Hit && parameter.starts_with(b"ttl=-") => Way::StaleHit,
-        _ => way,
+    let parameter = parameter.trim_ascii();
+    for (said, other) in SAID.iter() {
+        if *said == parameter {
+            return *other;
+        }
     }
+    if way == Way::Hit && parameter.starts_with(b"ttl=-") {
+        return Way::StaleHit;
+    }
+    way
 }

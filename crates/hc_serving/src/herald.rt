@@ -3,6 +3,7 @@
 use crate::counting::{Beside, Counting};
 use crate::logging::{Addressed, Clients};
 use crate::recorded::{RecordEnd, Recorded};
+use crate::watched::Opening;
 use crate::wrongs::{SpokenWrongs, say_wrongs};
 use hc_access::{AccessLog, Target};
 use hc_crowd::{Counted, Crowd, World};
@@ -73,23 +74,19 @@ impl<'a, E: Write, L: Target> Herald<'a, E, L> {
         }
     }
 
-    /// Says a notice.
-    pub(crate) fn say(&mut self, notice: Notice<'_>)
+    /// Says where clients and those who watch can connect, and that stops aren't seen, if they aren't.
+    pub(crate) fn greet(&mut self, start: Opening<'_>)
         ensures { GoesOn E.contents self.old.voice self.new.voice }
     {
-        self.voice.say(notice);
-    }
-
-    /// Says a notice if it is due.
-    pub(crate) fn say_if(&mut self, is_due: bool, notice: Notice<'_>)
-        ensures { GoesOn E.contents self.old.voice self.new.voice }
-    {
-        self.voice.say_if(is_due, notice);
+        self.voice.say(Notice::Listening(start.greeting));
+        self.voice
+            .say_if(!start.status.is_empty(), Notice::Watched(start.status));
+        self.voice.say_if(!start.hears_stops, Notice::Deaf);
     }
 
     /// Says what is new by that millisecond: what was wrong with what came, and with links, and that the wall clock is behind.
     /// Where the system lets nobody be served any more, links fail for that alone, and nothing is said of them.
-    pub(crate) fn look_at(&mut self, tick: u64, kinds: &[Counted], is_behind: bool)
+    fn look_at(&mut self, tick: u64, kinds: &[Counted], is_behind: bool)
         ensures { GoesOn E.contents self.old.voice self.new.voice }
     {
         self.look_at_polls(tick);
@@ -131,7 +128,7 @@ impl<'a, E: Write, L: Target> Herald<'a, E, L> {
     }
 
     /// Says that the recording has ended, if that wasn't told yet.
-    pub(crate) fn look_at_recording<T: Recorded>(&mut self, recording: &T)
+    fn look_at_recording<T: Recorded>(&mut self, recording: &T)
         ensures { GoesOn E.contents self.old.voice self.new.voice }
     {
         if self.told_end {
@@ -169,11 +166,13 @@ impl<'a, E: Write, L: Target> Herald<'a, E, L> {
         self.log.look(&Clients { crowd });
     }
 
-    /// Nothing more happens: what of the log waits is written.
-    pub(crate) fn finish_log(&mut self, tick: u64)
+    /// Nothing more happens: what wasn't told yet is told now, and what of the log waits is written.
+    pub(crate) fn conclude<W: World, T: Recorded>(&mut self, crowd: &Crowd<W>, recorder: &T)
         ensures { GoesOn E.contents self.old.voice self.new.voice }
     {
-        self.log.finish(tick);
+        self.look_at(u64::MAX, crowd.troubles().as_slice(), crowd.is_behind());
+        self.look_at_recording(recorder);
+        self.log.finish(crowd.tick());
     }
 
     /// Has the reply to a guest logged for whom there was no room.

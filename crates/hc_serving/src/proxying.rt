@@ -127,34 +127,84 @@ where
         (telling ⟦<Crowd<Sockets<'a, R>> as Links>⟧.tells ⟦<Crowd<Sockets<'a, R>> as Links>⟧.shows (OfRecorder ⟦<FileRecorder<R::File> as Link>⟧.has_got) (OfRecorder ⟦<FileRecorder<R::File> as Link>⟧.has_kept)
         served.crowd served.recorder) served.core) }
 {
-    let System { rt, health, board } = system;
-    check_recording(rt, proxy.file())?;
-    check_open_files(rt, limits)?;
-    let sockets = new_sockets(system, proxy)?;
-    let addresses = copied(rt.alloc(), sockets.addresses())?;
-    let status = copied(rt.alloc(), sockets.status_addresses())?;
-    let start = Opening {
-        alloc: rt.alloc(),
-        greeting: Greeting {
-            addresses: addresses.as_str(),
-            origin: proxy.origin,
-            keys: settings.keys,
-            bytes: settings.bytes,
-        },
-        status: status.as_str(),
-        bounds: Bounds {
-            limits,
-            keys: settings.keys,
-            bytes: settings.bytes,
-            records: proxy.recording.is_some(),
-        },
-        board,
-        hears_stops: sockets.hears_stops(),
-        health,
-    };
-    let mut served = begun(rt, sockets, proxy, limits, settings)?;
+    let (sockets, told) = prepared(&system, proxy, limits)?;
+    let start = opening_of(&system, proxy, limits, &settings, &told);
+    let mut served = begun(system.rt, sockets, proxy, limits, settings)?;
     served.serve(start, log, faults);
     Ok(served)
+}
+
+/// What is told of sockets.
+#[derive(Drop)]
+struct Told {
+    /// Where clients connect.
+    addresses: String,
+    /// Where whoever watches does; empty where nobody can.
+    status: String,
+    /// Whether signals that ask the program to stop can be seen.
+    hears_stops: bool,
+}
+
+/// The sockets, where the system lets them and what is recorded to be, and what is told of them.
+fn prepared<'a, R>(
+    system: &System<'a, R>,
+    proxy: Proxy<'a>,
+    limits: Limits,
+) -> Result<(Sockets<'a, R>, Told), ServeFault>
+where
+    R: Net + Files + Clock + AllocGlobal,
+    ensures { IfErr result (IsOfBeginning limits) }
+{
+    check_recording(system.rt, proxy.file())?;
+    check_open_files(system.rt, limits)?;
+    let sockets = new_sockets(system, proxy)?;
+    let told = told_of(system.rt.alloc(), &sockets)?;
+    Ok((sockets, told))
+}
+
+/// What is told of them.
+fn told_of<R: Net + Files + Clock>(
+    alloc: Global,
+    sockets: &Sockets<'_, R>,
+) -> Result<Told, AllocError> {
+    let addresses = copied(alloc, sockets.addresses())?;
+    let status = copied(alloc, sockets.status_addresses())?;
+    Ok(Told {
+        addresses,
+        status,
+        hears_stops: sockets.hears_stops(),
+    })
+}
+
+/// What is said once clients can connect, and what is looked at later.
+fn opening_of<'a, R: AllocGlobal>(
+    system: &System<'a, R>,
+    proxy: Proxy<'a>,
+    limits: Limits,
+    settings: &CoreSettings,
+    told: &'a Told,
+) -> Opening<'a> {
+    let keys = settings.keys;
+    let bytes = settings.bytes;
+    Opening {
+        alloc: system.rt.alloc(),
+        greeting: Greeting {
+            addresses: told.addresses.as_str(),
+            origin: proxy.origin,
+            keys,
+            bytes,
+        },
+        status: told.status.as_str(),
+        bounds: Bounds {
+            limits,
+            keys,
+            bytes,
+            records: proxy.recording.is_some(),
+        },
+        board: system.board,
+        hears_stops: told.hears_stops,
+        health: system.health,
+    }
 }
 
 /// What clients are served by in that world, to which nothing has happened yet.
@@ -194,7 +244,10 @@ where
 }
 
 /// Sockets to which clients connect, and the addresses of the origin.
-fn new_sockets<'a, R>(system: System<'a, R>, proxy: Proxy<'a>) -> Result<Sockets<'a, R>, ServeFault>
+fn new_sockets<'a, R>(
+    system: &System<'a, R>,
+    proxy: Proxy<'a>,
+) -> Result<Sockets<'a, R>, ServeFault>
 where
     R: Net + Files + Clock + AllocGlobal,
     ensures { IfErr result IsOfMaking }

@@ -6,10 +6,12 @@ ghost use Rattle.hc_serving.specs.Outcomes.{MeansFor};
 use crate::claim::Claim;
 use crate::fault::ServeFault;
 use hc_drive::{ServingFault, serve_clients};
+use hc_link_traits::{Clients, Clock as Moments, Link, Origins};
 use hc_machine::{Core, CoreFault};
 use hc_service::{CoreSettings, StepFault};
 use hc_sockets::{Listening, Origin, Recording, SystemClock, SystemLink};
 use hc_transcript::Format;
+use std::alloc::Global;
 use std::collections::hash_map::RandomState;
 use std::fs::{OpenFile, OpenOptions, Permissions};
 use std::io;
@@ -90,12 +92,40 @@ fn serve_from<R: Net + Files + Clock + AllocGlobal>(
         net: rt,
         address: service.origin,
     };
-    let clock = SystemClock { system: rt };
-    let count = service.connections;
-    match serve_clients(rt.alloc(), core, clients, &origin, &clock, recorder, count) {
+    let beside = Beside {
+        origins: &origin,
+        clock: &SystemClock { system: rt },
+        count: service.connections,
+    };
+    match serve_by(rt.alloc(), core, clients, beside, recorder) {
         Ok(()) => Ok(()),
         Err(fault) => Err(fault_of(fault, clients.reason(), recorder.reason())),
     }
+}
+
+/// What else clients are served by.
+#[derive(Clone, Copy)]
+struct Beside<'a, O, K> {
+    origins: &'a O,
+    clock: &'a K,
+    /// How many of them are served.
+    count: u64,
+}
+
+/// Serves clients of any kind.
+fn serve_by<A: Clients, O: Origins, K: Moments, T: Link>(
+    alloc: Global,
+    core: &mut Core<RandomState>,
+    clients: &mut A,
+    beside: Beside<'_, O, K>,
+    recorder: &mut T,
+) -> Result<(), ServingFault> {
+    let Beside {
+        origins,
+        clock,
+        count,
+    } = beside;
+    serve_clients(alloc, core, clients, origins, clock, recorder, count)
 }
 
 /// A new cache, whose store hashes targets with keys that no client knows.

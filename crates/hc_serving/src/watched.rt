@@ -23,7 +23,7 @@ use hc_drive::{DriveFault, Watcher, serve_crowd};
 use hc_link_traits::{Batches, Links, Recorder};
 use hc_machine::Core;
 use hc_monitor::Board;
-use hc_notices::{Greeting, Notice, Voice};
+use hc_notices::{Greeting, Voice};
 use hc_sockets::Health;
 use std::alloc::Global;
 use std::collections::hash_map::RandomState;
@@ -83,14 +83,9 @@ where
     let mut wrongs = SpokenWrongs::new(alloc);
     let counting = Counting::new(start.board, !start.status.is_empty(), start.bounds);
     let mut herald = Herald::new(alloc, voice, start.health, &mut wrongs, log, counting);
-    herald.say(Notice::Listening(start.greeting));
-    herald.say_if(!start.status.is_empty(), Notice::Watched(start.status));
-    herald.say_if(!start.hears_stops, Notice::Deaf);
+    herald.greet(start);
     let served = served_by(alloc, core, crowd, recorder, &mut herald);
-    // What wasn't told yet is told now.
-    herald.look_at(u64::MAX, crowd.troubles().as_slice(), crowd.is_behind());
-    herald.look_at_recording(&*recorder);
-    herald.finish_log(crowd.tick());
+    herald.conclude(crowd, &*recorder);
     served
 }
 

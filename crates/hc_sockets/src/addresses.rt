@@ -10,6 +10,16 @@ pub(crate) fn addresses_of<R: Net + AllocGlobal>(
     address: &str,
 ) -> io::Result<Vec<SocketAddr>> {
     let mut addresses = Vec::new(rt.alloc());
+    put_addresses(rt, address, &mut addresses)?;
+    Ok(addresses)
+}
+
+/// Puts the addresses there, each once.
+pub(crate) fn put_addresses<R: Net + AllocGlobal>(
+    rt: &R,
+    address: &str,
+    addresses: &mut Vec<SocketAddr>,
+) -> io::Result<()> {
     'addresses: for found in address.to_socket_addrs(rt)? {
         if !addresses.contains(&found) {
             addresses.push(found)?;
@@ -18,5 +28,5 @@ pub(crate) fn addresses_of<R: Net + AllocGlobal>(
     if addresses.is_empty() {
         return Err(io::Error::from(ErrorKind::AddrNotAvailable));
     }
-    Ok(addresses)
+    Ok(())
 }

@@ -17,7 +17,6 @@ mod stale;
 mod system_link;
 mod tokens;
 mod watchers;
-mod watching;
 mod wire;
 
 pub use clock::SystemClock;

@@ -59,7 +59,6 @@ pub(crate) struct Caller {
 
 /// The sockets to which clients connect, each at an address.
 pub(crate) struct Listeners {
-    alloc: Global,
     listeners: Vec<Listener>,
     /// Their addresses, with commas between them.
     names: String,
@@ -70,7 +69,6 @@ pub(crate) struct Listeners {
 impl Drop for Listeners {
     fn drop(self) {
         let Listeners {
-            alloc: _,
             listeners,
             names,
             turn: _,
@@ -88,26 +86,30 @@ pub(crate) struct Unbound {
 }
 
 impl Listeners {
-    /// One for each address of those hosts and ports, and one for each path, of which the poll tells.
+    /// None.
+    pub(crate) fn none(alloc: Global) -> Self {
+        Listeners {
+            listeners: Vec::new(alloc),
+            names: String::new(alloc),
+            turn: 0,
+        }
+    }
+
+    /// One more for each address of those hosts and ports, and one for each path, of which the poll tells.
     pub(crate) fn bind<R: Net + Files + AllocGlobal>(
+        &mut self,
         rt: &R,
         poll: &Poll,
         wanted: &[&str],
-    ) -> Result<Self, Unbound> {
-        let mut listeners = Listeners {
-            alloc: rt.alloc(),
-            listeners: Vec::new(rt.alloc()),
-            names: String::new(rt.alloc()),
-            turn: 0,
-        };
+    ) -> Result<(), Unbound> {
         let mut place = 0usize;
         'wanted: for address in wanted {
-            if let Err(reason) = listeners.bind_at(rt, poll, address) {
+            if let Err(reason) = self.bind_at(rt, poll, address) {
                 return Err(Unbound { place, reason });
             }
             place = place.saturating_add(1);
         }
-        Ok(listeners)
+        Ok(())
     }
 
     /// Those at one of them.
@@ -132,10 +134,18 @@ impl Listeners {
     ) -> io::Result<()> {
         let addresses = addresses_of(rt, wanted)?;
         'addresses: for address in addresses.as_slice() {
-            let listener = TcpListener::bind(rt, *address)?;
-            let name = format!(in self.alloc; "{}", listener.local_addr()?)?;
-            self.add(poll, Door::Tcp(listener), name.as_str())?;
+            self.bind_address(rt, poll, *address)?;
         }
+        Ok(())
+    }
+
+    /// One at that address.
+    fn bind_address<R: Net>(&mut self, rt: &R, poll: &Poll, address: SocketAddr) -> io::Result<()> {
+        let listener = TcpListener::bind(rt, address)?;
+        let address = listener.local_addr();
+        self.add(poll, Door::Tcp(listener))?;
+        self.begin_name()?;
+        write!(self.names, "{}", address?).map_err(|_| AllocError)?;
         Ok(())
     }
 
@@ -143,30 +153,27 @@ impl Listeners {
     fn bind_path<R: Net + Files>(&mut self, rt: &R, poll: &Poll, path: &str) -> io::Result<()> {
         remove_stale(rt, path);
         let listener = UnixListener::bind(rt, path)?;
-        let name = format!(in self.alloc; "{UNIX}{path}")?;
-        self.add(poll, Door::Unix(listener), name.as_str())
+        self.add(poll, Door::Unix(listener))?;
+        self.begin_name()?;
+        self.names.push_str(UNIX)?;
+        self.names.push_str(path)?;
+        Ok(())
     }
 
-    /// One more, of that name.
-    fn add(&mut self, poll: &Poll, door: Door, name: &str) -> io::Result<()> {
+    /// One more.
+    fn add(&mut self, poll: &Poll, door: Door) -> io::Result<()> {
         let mut listener = Listener { door, ready: true };
-        let place = self.listeners.len() as u64;
-        let Some(token) = Source::Listener(place).token() else {
-            return Err(io::Error::from(ErrorKind::OutOfMemory));
-        };
-        match &mut listener.door {
-            Door::Tcp(door) => poll.registry().register(door, token, Interest::READABLE)?,
-            Door::Unix(door) => poll.registry().register(door, token, Interest::READABLE)?,
-        }
-        self.note_name(name)?;
+        listener.register(poll, self.listeners.len() as u64)?;
         self.listeners.push(listener)?;
         Ok(())
     }
 
-    /// Puts a name at the end.
-    fn note_name(&mut self, name: &str) -> Result<(), AllocError> {
-        let between = if self.names.is_empty() { "" } else { ", " };
-        write!(self.names, "{between}{name}").map_err(|_| AllocError)
+    /// Puts what stands between two names at the end, unless none stands there.
+    fn begin_name(&mut self) -> Result<(), AllocError> {
+        if self.names.is_empty() {
+            return Ok(());
+        }
+        self.names.push_str(", ")
     }
 
     /// Their addresses, each with the port that it really has, with commas between them.
@@ -222,6 +229,17 @@ impl Listeners {
 }
 
 impl Listener {
+    /// The poll tells whether a client waits at the one at that place.
+    fn register(&mut self, poll: &Poll, place: u64) -> io::Result<()> {
+        let Some(token) = Source::Listener(place).token() else {
+            return Err(io::Error::from(ErrorKind::OutOfMemory));
+        };
+        match &mut self.door {
+            Door::Tcp(door) => poll.registry().register(door, token, Interest::READABLE),
+            Door::Unix(door) => poll.registry().register(door, token, Interest::READABLE),
+        }
+    }
+
     /// The poll tells anew whether a client waits at the one at that place. Answers whether it does.
     fn ask(&mut self, registry: &Registry, place: u64) -> bool {
         let Some(token) = Source::Listener(place).token() else {

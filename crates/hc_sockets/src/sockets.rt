@@ -3,7 +3,7 @@
 ghost use Rattle.std.specs.Prelude.{◌≡◌, ◌||◌, ◌&&◌};
 ghost use Rattle.mio.specs.Event.{is_error, is_read_closed, is_readable, is_writable};
 
-use crate::addresses::addresses_of;
+use crate::addresses::put_addresses;
 use crate::attempts::{Attempts, Stage};
 use crate::channel::Channel;
 use crate::health::Health;
@@ -115,23 +115,51 @@ impl<'a, R: Net + Files + Clock + AllocGlobal> Sockets<'a, R> {
     /// Clients can connect to each address of the hosts and ports, and to each path, and those who watch to theirs. The name
     /// of the origin is resolved now, once.
     pub fn new(rt: &'a R, health: &'a Health, ends: Ends<'a>) -> Result<Self, SocketsFault> {
-        let origin = addresses_of(rt, ends.origin).map_err(origin_fault)?;
         let poll = Poll::new(rt).map_err(poll_fault)?;
-        let listeners = Listeners::bind(rt, &poll, ends.listen).map_err(listen_fault)?;
-        let watchers = watchers_at(rt, &poll, ends)?;
+        let signals = Signals::new(rt, rt.alloc()).map_err(signals_fault)?;
+        let mut sockets = Sockets::closed(rt, health, ends.board, poll, signals)?;
+        sockets.open(ends)?;
+        Ok(sockets)
+    }
+
+    /// Nobody can connect yet.
+    fn closed(
+        rt: &'a R,
+        health: &'a Health,
+        board: &'a Board,
+        poll: Poll,
+        signals: Signals<R::File>,
+    ) -> Result<Self, AllocError> {
+        let alloc = rt.alloc();
         Ok(Sockets {
             rt,
             health,
             poll,
-            events: Events::with_capacity(rt.alloc(), MOST_EVENTS)?,
+            events: Events::with_capacity(alloc, MOST_EVENTS)?,
             told: 0,
-            listeners,
-            watchers,
+            listeners: Listeners::none(alloc),
+            watchers: Watchers::none(alloc, board),
             listens: true,
-            origin,
-            attempts: Attempts::new(rt.alloc())?,
-            signals: Signals::new(rt, rt.alloc()).map_err(signals_fault)?,
+            origin: Vec::new(alloc),
+            attempts: Attempts::new(alloc)?,
+            signals,
         })
+    }
+
+    /// Clients and those who watch can connect, and the origin has addresses.
+    fn open(&mut self, ends: Ends<'a>) -> Result<(), SocketsFault> {
+        let rt = self.rt;
+        put_addresses(rt, ends.origin, &mut self.origin).map_err(origin_fault)?;
+        self.listeners
+            .bind(rt, &self.poll, ends.listen)
+            .map_err(listen_fault)?;
+        match ends.status {
+            Some(address) => self
+                .watchers
+                .bind(rt, &self.poll, address)
+                .map_err(status_fault),
+            None => Ok(()),
+        }
     }
 }
 
@@ -345,19 +373,6 @@ fn readiness_of(event: Event, fails: bool) -> Readiness
         ended,
         failed: error & fails,
     }
-}
-
-/// Those who watch, where they connect.
-fn watchers_at<'a, R: Net + AllocGlobal>(
-    rt: &R,
-    poll: &Poll,
-    ends: Ends<'a>,
-) -> Result<Watchers<'a>, SocketsFault> {
-    let mut watchers = Watchers::none(rt.alloc(), ends.board);
-    if let Some(address) = ends.status {
-        watchers.bind(rt, poll, address).map_err(status_fault)?;
-    }
-    Ok(watchers)
 }
 
 /// Why nobody could watch.

@@ -2,8 +2,7 @@
 
 use crate::addresses::addresses_of;
 use crate::tokens::Source;
-use crate::watching::Watching;
-use hc_monitor::{Board, Body};
+use hc_monitor::{Board, Body, Watching};
 use mio::net::{TcpListener, TcpStream};
 use mio::{Interest, Poll, Registry};
 use std::alloc::{AllocError, Global};

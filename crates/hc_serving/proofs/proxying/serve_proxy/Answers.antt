@@ -5,20 +5,8 @@ use Rattle.hc_notices.specs.VoiceLaws.{nothing_is_said}
 use Rattle.hc_serving.specs.Proxies.{options_within}
 use Rattle.hc_serving.proofs.proxying.serve_proxy.Goals as goal
 
-pub returns-in_err-check_recording-clause-said : goal.returns-in_err-check_recording-clause-said
-returns-in_err-check_recording-clause-said g c = nothing_is_said (g.E.Write.contents c.args.faults.now)
-
-pub returns-in_err-check_open_files-clause-said : goal.returns-in_err-check_open_files-clause-said
-returns-in_err-check_open_files-clause-said g c = nothing_is_said (g.E.Write.contents c.args.faults.now)
-
 pub returns-in_err-sockets-clause-said : goal.returns-in_err-sockets-clause-said
 returns-in_err-sockets-clause-said g c = nothing_is_said (g.E.Write.contents c.args.faults.now)
-
-pub returns-in_err-addresses-clause-said : goal.returns-in_err-addresses-clause-said
-returns-in_err-addresses-clause-said g c = nothing_is_said (g.E.Write.contents c.args.faults.now)
-
-pub returns-in_err-status-clause-said : goal.returns-in_err-status-clause-said
-returns-in_err-status-clause-said g c = nothing_is_said (g.E.Write.contents c.args.faults.now)
 
 pub returns-in_err-served-clause-said : goal.returns-in_err-served-clause-said
 returns-in_err-served-clause-said g c = nothing_is_said (g.E.Write.contents c.args.faults.now)

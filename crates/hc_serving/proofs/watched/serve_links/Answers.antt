@@ -4,10 +4,8 @@ use Rattle.hc_serving.proofs.watched.serve_links.Goals as goal
 
 pub returns-clause-said : goal.returns-clause-said
 returns-clause-said g c =
-    let greeted = joined g.E.Write.contents _ _ _ (joined g.E.Write.contents _ _ _ c.say.ensures c.say_if.ensures) c.say_if-2.ensures in
-    let served = joined g.E.Write.contents _ _ _ greeted c.served_by-served.ensures.watched in
-    let looked = joined g.E.Write.contents _ _ _ (joined g.E.Write.contents _ _ _ served c.look_at.ensures) c.look_at_recording.ensures in
-    let went_on = rw c.new-herald.ensures at (joined g.E.Write.contents _ _ _ looked c.finish_log.ensures) in
+    let served = joined g.E.Write.contents _ _ _ c.greet.ensures c.served_by-served.ensures.watched in
+    let went_on = rw c.new-herald.ensures at (joined g.E.Write.contents _ _ _ served c.conclude.ensures) in
     let said = went_on.some c.new-voice.ensures.silent in
     let name = sym (went_on.same_reference ∙ c.new-voice.ensures.same_reference) in
     search rules

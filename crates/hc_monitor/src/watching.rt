@@ -1,6 +1,8 @@
 //! The link of one who watches over a proxy.
 
-use hc_monitor::{Board, Body, Wanted, reply, wanted_by};
+use crate::asking::{Wanted, wanted_by};
+use crate::board::Board;
+use crate::replying::{Body, reply};
 use mio::net::TcpStream;
 use std::alloc::Global;
 use std::io::{ErrorKind, Read, Write};
@@ -40,7 +42,7 @@ enum Turn {
 }
 
 /// The link of one who watches over a proxy.
-pub(crate) struct Watching {
+pub struct Watching {
     alloc: Global,
     stream: TcpStream,
     stage: Stage,
@@ -69,7 +71,7 @@ impl Drop for Watching {
 
 impl Watching {
     /// One who has connected.
-    pub(crate) fn new(alloc: Global, stream: TcpStream) -> Self {
+    pub fn new(alloc: Global, stream: TcpStream) -> Self {
         Watching {
             alloc,
             stream,
@@ -81,12 +83,12 @@ impl Watching {
     }
 
     /// Whether the numbers are awaited.
-    pub(crate) fn awaits(&self) -> bool {
+    pub fn awaits(&self) -> bool {
         self.stage == Stage::Awaits
     }
 
     /// Something became ready. Answers whether the link is of use still.
-    pub(crate) fn go_on(&mut self, board: &Board, serves: bool) -> bool {
+    pub fn go_on(&mut self, board: &Board, serves: bool) -> bool {
         'turns: for _ in 0..TURNS {
             let turn = match self.stage {
                 Stage::Asks => self.hear(board, serves),
@@ -145,7 +147,7 @@ impl Watching {
     }
 
     /// Replies that, where the numbers are awaited.
-    pub(crate) fn answer_if_awaiting(&mut self, body: Body<'_>) {
+    pub fn answer_if_awaiting(&mut self, body: Body<'_>) {
         if self.stage != Stage::Awaits {
             return;
         }
