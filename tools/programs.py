@@ -15,6 +15,7 @@ import types
 import unproved as without_proof
 
 HERE = pathlib.Path(__file__).resolve().parent.parent
+COMMANDS = ("hc_prog", "hc_proxy_prog")  # the crates of the programs that have all commands
 IS_INSTALLED = not (HERE / "hcache").is_file()  # as a package does it, and no repository
 
 Ran = collections.namedtuple("Ran", "status output faults requests octets")
@@ -127,17 +128,27 @@ def hcache(is_unproved=False):
     if "HCACHE" in os.environ:
         need(os.environ["HCACHE"])
         return [os.path.abspath(shutil.which(os.environ["HCACHE"]))]
+    direct = HERE / "tools/direct"
     if is_unproved:
-        return unproved()
-    # An audit would do with a program of its own.
-    words = [HERE / "hcache", "report", HERE / "examples/first.hct"]
-    if subprocess.run(words, stdout=subprocess.DEVNULL, check=False).returncode:
-        print("hcache doesn't run", file=sys.stderr)
+        for name in COMMANDS:
+            unproved(name)
+        return [direct, "--unproved"]
+    if subprocess.run([HERE / "hcache", "--build"], check=False).returncode:
+        print("hcache isn't built", file=sys.stderr)
         sys.exit(70)
-    return [HERE / "crates/hc_prog/out/hc_prog"]
+    return [direct]
 
 
-def unproved(name="hc_prog"):
+def program(command, is_unproved=False):
+    """The words by which the program is run that has that command, once it is built, and nothing before it."""
+    name = without_proof.crate_of(command)
+    if is_unproved:
+        return unproved(name)
+    hcache()
+    return [HERE / f"crates/{name}/out/{name}"]
+
+
+def unproved(name):
     """The words by which the program of a crate is run without a proof, once it is built."""
     try:
         return without_proof.program_of(name)

@@ -1,4 +1,12 @@
-# What starts a program of hcache, for ./hcache and for the one that is installed.
+# What chooses and starts a program of hcache, for ./hcache and for the one that is installed.
+
+# The crate whose program has that command: one serves clients, and another does the rest.
+crate_of() {
+    case $1 in
+        proxy | serve) echo hc_proxy_prog ;;
+        *) echo hc_prog ;;
+    esac
+}
 
 # Becomes the program, for this command and by the words after it. A proxy hears of SIGTERM and SIGINT where they are
 # blocked, and has a file open for each connection. Its large bodies have memory of their own, which goes back to the

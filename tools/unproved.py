@@ -1,7 +1,7 @@
-"""usage: python3 tools/unproved.py build [NAME]
-       python3 tools/unproved.py run [WORD..]
+"""usage: python3 tools/unproved.py build NAME
+       python3 tools/unproved.py run WORD..
 
-Builds the program of a crate (hc_prog) without a proof, and keeps it in out/unproved/; or runs hcache so by these words,
+Builds the program of a crate without a proof, and keeps it in out/unproved/; or runs hcache so by these words,
 where that can't be. `./hcache --unproved` and the tools call it.
 
 `rt try` builds such a program, compiled with the address sanitizer and without optimising, and runs it in a folder of its
@@ -109,7 +109,12 @@ def runs_by(of):
 # -- What is kept
 
 
-def words_of(name="hc_prog"):
+def crate_of(command=""):
+    """The crate whose program has that command, as tools/start.sh has it."""
+    return "hc_proxy_prog" if command in ("proxy", "serve") else "hc_prog"
+
+
+def words_of(name):
     """The words by which the kept program of a crate is run."""
     try:
         _, _, loader, libraries = (KEPT / f"{name}.how").read_text(encoding="utf-8").split("\n")[:4]
@@ -248,7 +253,7 @@ def build(name):
         keep(name, made, began, kit())
 
 
-def program_of(name="hc_prog"):
+def program_of(name):
     """The words by which the program of a crate is run without a proof, once it is built."""
     if not is_kept(name):
         build(name)
@@ -274,7 +279,7 @@ def run(words):
         handed.append(word)
     with tempfile.TemporaryDirectory(prefix="unproved-") as room:
         with open(pathlib.Path(room) / "log", "w+", encoding="utf-8", errors="replace") as log:
-            ran = subprocess.Popen(["rt", "try", *given, "--", *handed], cwd=HERE / "crates/hc_prog", stderr=log,
+            ran = subprocess.Popen(["rt", "try", *given, "--", *handed], cwd=HERE / "crates" / crate_of(*words[:1]), stderr=log,
                                    env={**os.environ, "TMPDIR": room}, start_new_session=True)
             try:
                 status = ran.wait()
@@ -290,7 +295,7 @@ def run(words):
 
 
 def main(words):
-    if words in (["--help"], ["-h"]) or words[:1] not in (["build"], ["run"]):
+    if words in (["--help"], ["-h"]) or words[:1] not in (["build"], ["run"]) or len(words) < 2:
         print(__doc__, file=sys.stdout if words in (["--help"], ["-h"]) else sys.stderr)
         return 0 if words in (["--help"], ["-h"]) else 64
     for it in (signal.SIGTERM, signal.SIGHUP, signal.SIGINT):
@@ -298,7 +303,7 @@ def main(words):
     try:
         if words[0] == "run":
             return run(words[1:])
-        build(*(words[1:] or ["hc_prog"]))
+        build(*words[1:])
         return 0
     except CantKeep:
         return CANT_KEEP

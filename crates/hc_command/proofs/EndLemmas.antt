@@ -1,12 +1,12 @@
 -- How the program ends, by the task that its words ask for.
-use Rattle.std.proofs.Common.{◌≡◌, ℕ, Bool, true, false, List, Option, Some, None, inl, inr, subst}
+use Rattle.std.proofs.Common.{◌≡◌, ◌⊎◌, ℕ, Bool, true, false, List, Option, Some, None, inl, inr, subst}
 use Rattle.std.specs.Io.KnownBytes.{Keeps}
 use Rattle.hc_options.specs.declared.auditing.AuditTerms.{AuditTerms}
 use Rattle.hc_arguments.specs.Tasks.{Form, Task}
 use Rattle.hc_arguments.specs.Tasks.Task.{ToAudit, ToReport, ToExplain, ToShow, ToReplay, ToConvert, ToSplit, ToJoin, ToServe, ToProxy}
 use Rattle.hc_auditing.specs.Ends.{EndsUnasked}
 use Rattle.hc_command.specs.Ends.{Does, Ends}
-use Rattle.hc_command.specs.Report.{ExplainedTwice}
+use Rattle.hc_command.specs.Report.{Explained, ExplainedTwice}
 use Rattle.hc_command.specs.Documents.{ReportedAs}
 use Rattle.hc_command.specs.Reporting.{ReportedFor}
 
@@ -19,6 +19,12 @@ explained_with_3 : (json : Bool) (position : Option ℕ) (status : ℕ) (old new
     → ExplainedTwice json position status old new faults_old faults_new
 explained_with_3 json None status old new faults_old faults_new is = inl is
 explained_with_3 json (Some place) status old new faults_old faults_new is = inl is
+
+-- what can't be read twice is said with 64 or 3, and writes nothing
+pub explained_untwice : (json : Bool) (position : Option ℕ) (status : ℕ) (old new faults_old faults_new : Option (List ℕ)) → (status ≡ 64) ⊎ (status ≡ 3)
+    → Keeps old new → Explained json position status old new faults_old faults_new
+explained_untwice json position status old new faults_old faults_new (inl is) kept = inl (is, kept)
+explained_untwice json position status old new faults_old faults_new (inr is) kept = inr (explained_with_3 json position status old new faults_old faults_new is)
 
 report_with_3 : (json : Bool) (baseline : Option (List ℕ)) (strict annotates : Bool) (terms : AuditTerms) (status : ℕ) (old new faults_old faults_new : Option (List ℕ)) → status ≡ 3
     → Keeps old new → ReportedFor json baseline strict annotates terms status old new faults_old faults_new
@@ -41,8 +47,8 @@ fails_with_3 (ToReplay file) status old new faults_old faults_new is kept = inl 
 fails_with_3 (ToConvert file) status old new faults_old faults_new is kept = inl is
 fails_with_3 (ToSplit file parts dir) status old new faults_old faults_new is kept = inl is
 fails_with_3 (ToJoin dir least) status old new faults_old faults_new is kept = inl is
-fails_with_3 (ToServe listen origin connections file settings) status old new faults_old faults_new is kept = (kept, inl is)
-fails_with_3 (ToProxy listen origin file log told terms limits keeps_cookies settings) status old new faults_old faults_new is kept = (kept, inl is)
+fails_with_3 (ToServe listen origin connections file settings) status old new faults_old faults_new is kept = (inr is, kept)
+fails_with_3 (ToProxy listen origin file log told terms limits keeps_cookies settings) status old new faults_old faults_new is kept = (inr is, kept)
 
 -- and what is answered to a task is how the program ends
 pub does_ends : (task : Task) (status : ℕ) (old new faults_old faults_new : Option (List ℕ)) → Does task status old new faults_old faults_new
@@ -53,14 +59,14 @@ does_ends (ToExplain file terms) status old new faults_old faults_new does = inr
 does_ends (ToShow file span) status old new faults_old faults_new does = inr (inr (inr (inl (span, does))))
 does_ends (ToReplay file) status old new faults_old faults_new does = inr (inr (inr (inr (inl does))))
 does_ends (ToConvert file) status old new faults_old faults_new does = inr (inr (inr (inr (inr (inl does)))))
-does_ends (ToSplit file parts dir) status old new faults_old faults_new does = inr (inr (inr (inr (inr (inr (inr (inr (inl does))))))))
-does_ends (ToJoin dir least) status old new faults_old faults_new does = inr (inr (inr (inr (inr (inr (inr (inr (inr (inl (least, does))))))))))
+does_ends (ToSplit file parts dir) status old new faults_old faults_new does = inr (inr (inr (inr (inr (inr (inr (inl does)))))))
+does_ends (ToJoin dir least) status old new faults_old faults_new does = inr (inr (inr (inr (inr (inr (inr (inr (inl (least, does)))))))))
 does_ends (ToServe listen origin connections file settings) status old new faults_old faults_new does = inr (inr (inr (inr (inr (inr (inl does))))))
-does_ends (ToProxy listen origin file log told terms limits keeps_cookies settings) status old new faults_old faults_new does = inr (inr (inr (inr (inr (inr (inr (inl does)))))))
+does_ends (ToProxy listen origin file log told terms limits keeps_cookies settings) status old new faults_old faults_new does = inr (inr (inr (inr (inr (inr (inl does))))))
 
 -- so is what is said where nothing is done
 pub unasked_ends : (status : ℕ) (old new faults_old faults_new : Option (List ℕ)) → EndsUnasked status old new faults_old faults_new
     → Ends status old new faults_old faults_new
 unasked_ends status old new faults_old faults_new (inl failed) = inr (inr (inr (inr (inl (inl failed)))))
-unasked_ends status old new faults_old faults_new (inr (inl shown)) = inr (inr (inr (inr (inr (inr (inr (inr (inr (inr (inl shown))))))))))
-unasked_ends status old new faults_old faults_new (inr (inr refused)) = inr (inr (inr (inr (inr (inr (inr (inr (inr (inr (inr refused))))))))))
+unasked_ends status old new faults_old faults_new (inr (inl shown)) = inr (inr (inr (inr (inr (inr (inr (inr (inr (inl shown)))))))))
+unasked_ends status old new faults_old faults_new (inr (inr refused)) = inr (inr (inr (inr (inr (inr (inr (inr (inr (inr refused)))))))))

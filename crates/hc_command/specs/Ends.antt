@@ -13,15 +13,10 @@ use Rattle.hc_command.specs.Documents.{ReportedOn}
 use Rattle.hc_command.specs.Show.{ShownFor}
 use Rattle.hc_parting.specs.Ends.{EndsJoin, EndsSplit}
 use Rattle.hc_shown.specs.declared.span.Span.{Span}
-use Rattle.hc_notices.specs.Notices.{SaysSome}
 
--- nothing was written on the output; all clients were served and nothing was said, or the status is 3
-abbrev pub Served : ℕ → Option (List ℕ) → Option (List ℕ) → Option (List ℕ) → Option (List ℕ) → Type 0
-Served status old new faults_old faults_new = Keeps old new × ((status ≡ 3) ⊎ ((status ≡ 0) × Keeps faults_old faults_new))
-
--- nothing was written on the output, unless whoever serves logs replies there; clients were served until it was stopped, or all had come and gone, and notices alone were said, the last perhaps in part; or the status is 3, or 64 where nothing can be recorded to what was named
-abbrev pub Proxied : ℕ → Option (List ℕ) → Option (List ℕ) → Option (List ℕ) → Option (List ℕ) → Type 0
-Proxied status old new faults_old faults_new = Keeps old new × ((status ≡ 3) ⊎ (status ≡ 64) ⊎ ((status ≡ 0) × SaysSome faults_old faults_new))
+-- another program does that: it is refused, or memory was, and nothing was written on the output
+abbrev pub IsElsewhere : ℕ → Option (List ℕ) → Option (List ℕ) → Type 0
+IsElsewhere status old new = ((status ≡ 64) ⊎ (status ≡ 3)) × Keeps old new
 
 -- what is answered to a task
 abbrev pub Does : Task → ℕ → Option (List ℕ) → Option (List ℕ) → Option (List ℕ) → Option (List ℕ) → Type 0
@@ -33,8 +28,8 @@ Does (ToReplay file) status old new faults_old faults_new = Played status old ne
 Does (ToConvert file) status old new faults_old faults_new = Converted status old new faults_old faults_new
 Does (ToSplit file parts dir) status old new faults_old faults_new = EndsSplit status old new
 Does (ToJoin dir least) status old new faults_old faults_new = EndsJoin least status old new
-Does (ToServe listen origin connections file settings) status old new faults_old faults_new = Served status old new faults_old faults_new
-Does (ToProxy listen origin file log told terms limits keeps_cookies settings) status old new faults_old faults_new = Proxied status old new faults_old faults_new
+Does (ToServe listen origin connections file settings) status old new faults_old faults_new = IsElsewhere status old new
+Does (ToProxy listen origin file log told terms limits keeps_cookies settings) status old new faults_old faults_new = IsElsewhere status old new
 
 -- a task is answered, help or the version is shown, or the words are refused with nothing on the output
 abbrev pub Ends : ℕ → Option (List ℕ) → Option (List ℕ) → Option (List ℕ) → Option (List ℕ) → Type 0
@@ -42,6 +37,6 @@ Ends status old new faults_old faults_new = ((least : Minimums) × Answers least
     ⊎ ((form : Form) × (terms : AuditTerms) × ReportedOn form terms status old new faults_old faults_new)
     ⊎ ((json : Bool) × (position : Option ℕ) × Explained json position status old new faults_old faults_new)
     ⊎ ((span : Span) × ShownFor span status old new faults_old faults_new)
-    ⊎ Played status old new faults_old faults_new ⊎ Converted status old new faults_old faults_new ⊎ Served status old new faults_old faults_new
-    ⊎ Proxied status old new faults_old faults_new ⊎ EndsSplit status old new ⊎ ((least : Minimums) × EndsJoin least status old new)
+    ⊎ Played status old new faults_old faults_new ⊎ Converted status old new faults_old faults_new ⊎ IsElsewhere status old new
+    ⊎ EndsSplit status old new ⊎ ((least : Minimums) × EndsJoin least status old new)
     ⊎ ((status ≡ 0) × Keeps faults_old faults_new) ⊎ ((status ≡ 64) × Keeps old new)

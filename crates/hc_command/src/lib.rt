@@ -11,9 +11,9 @@ mod replaying;
 mod reporting;
 mod run;
 mod saying;
-mod serving;
 mod showing;
 mod surveying;
+mod twice;
 
 pub use baseline::{BaselineTrouble, baseline_of};
 pub use converting::convert;
@@ -22,5 +22,4 @@ pub use explaining::explain;
 pub use replaying::replay;
 pub use reporting::{Beside, ReportEnd, ReportForm, report};
 pub use run::{answered, status};
-pub use serving::Server;
 pub use showing::show;

@@ -1,16 +1,14 @@
 //! What the program does, over any system and any two writers.
 ghost use Rattle.std.specs.Io.KnownBytes.{Keeps};
-ghost use Rattle.std.specs.Prelude.{◌≡◌, ◌⊎◌, ◌<◌, ◌∷◌, [], ℕ, None, Some, codes, false, map, true};
+ghost use Rattle.std.specs.Prelude.{◌≡◌, ◌⊎◌, ◌<◌, ◌∷◌, [], None, codes, false, map, true};
 ghost use Rattle.clap.specs.Words.{Text, fault_of};
 ghost use Rattle.hc_options.specs.Auditing.{no_minimums, plain_audit};
 ghost use Rattle.hc_options.specs.Commands.{IsFileName, IsWord};
 ghost use Rattle.hc_arguments.specs.Commands.{hcache};
-ghost use Rattle.hc_arguments.specs.Origins.{is_origin};
-ghost use Rattle.hc_arguments.specs.Positions.{positive_of};
-ghost use Rattle.hc_arguments.specs.Tasks.{Asks, CanBeDone, Task, form_of, proxy_words, service_words, task_of};
+ghost use Rattle.hc_arguments.specs.Tasks.{Asks, CanBeDone, Task, form_of, task_of};
 ghost use Rattle.hc_auditing.specs.Audit.{Answers};
 ghost use Rattle.hc_command.specs.Convert.{Converted};
-ghost use Rattle.hc_command.specs.Ends.{Does, Ends, Proxied, Served};
+ghost use Rattle.hc_command.specs.Ends.{Does, Ends};
 ghost use Rattle.hc_command.specs.Replay.{Played};
 ghost use Rattle.hc_command.specs.Show.{ShownFor};
 ghost use Rattle.hc_command.specs.Report.{Explained, ExplainedTwice};
@@ -23,8 +21,8 @@ use crate::documenting::report_in_html;
 use crate::explaining::explain;
 use crate::replaying::replay;
 use crate::reporting::{Beside, ReportForm, report};
-use crate::serving::Server;
 use crate::showing::show;
+use crate::twice::{Twice, opened_twice};
 use hc_arguments::{
     AuditTerms, ExplainTerms, Order, ReportTerms, beside_html, not_text, parsed, without_baseline,
 };
@@ -37,36 +35,30 @@ use hc_parting::{SplitOrder, join, split};
 use hc_shown::Span;
 use std::alloc::Global;
 use std::convert::AsStr;
-use std::io::Write;
+use std::io::{Read, Write};
 use std::rt::{Env, Files};
 use std::{fs, io};
 
-/// Does what the program's own arguments ask, and answers its exit status. What is to be served, that server serves.
-pub fn status<R, V: Server, W: Write, E: Write>(
-    rt: &R,
-    server: &V,
-    output: &mut W,
-    faults: &mut E,
-) -> u8
+/// Does what the program's own arguments ask, and returns its exit status.
+pub fn status<R, W: Write, E: Write>(rt: &R, output: &mut W, faults: &mut E) -> u8
 where
     R: Env + Files + Input + AllocGlobal,
     ensures { Ends result (W.contents output.old) (W.contents output.new)
         (E.contents faults.old) (E.contents faults.new) }
 {
     match words_of(rt) {
-        Ok(words) => answered(rt, server, words.as_slice(), output, faults),
+        Ok(words) => answered(rt, words.as_slice(), output, faults),
         Err(error) => unread(&error, not_text(rt.alloc()), output, faults),
     }
 }
 
-/// Does what the words ask, of which the first is the program's name, and answers the exit status.
+/// Does what the words ask, of which the first is the program's name, and returns the exit status.
 ///
-/// A transcript or a script is read from the system, and clients are served by that server. A verdict, the
+/// A transcript or a script is read from the system. Clients are served by a program of its own. A verdict, the
 /// transcript of a script, a converted transcript, help or the version goes to `output`, and what went wrong, or
 /// the verdict on the transcript of a script, to `faults`.
-pub fn answered<R, V: Server, S: AsStr, W: Write, E: Write>(
+pub fn answered<R, S: AsStr, W: Write, E: Write>(
     rt: &R,
-    server: &V,
     words: &[S],
     output: &mut W,
     faults: &mut E,
@@ -103,19 +95,6 @@ where
         → Converted result (W.contents output.old) (W.contents output.new)
         (E.contents faults.old) (E.contents faults.new) }
 
-    // And `serve` with the four options that it needs, each value behind its `=`, by serving.
-    ensures serve { (name listen origin number file : Text) (connections : ℕ)
-        → is_origin origin ≡ true → positive_of number ≡ Some connections
-        → map S.text words.now ≡ name ∷ service_words listen origin number file
-        → Served result (W.contents output.old) (W.contents output.new)
-        (E.contents faults.old) (E.contents faults.new) }
-
-    // And `proxy` with the two options that it needs by serving many clients at once.
-    ensures proxy { (name listen origin : Text) → is_origin origin ≡ true
-        → map S.text words.now ≡ name ∷ proxy_words listen origin
-        → Proxied result (W.contents output.old) (W.contents output.new)
-        (E.contents faults.old) (E.contents faults.new) }
-
     // So are other words that ask for one of these, and have no fault.
     ensures asked { (task : Task) → fault_of hcache (map S.text words.now) ≡ []
         → Asks (map S.text words.now) task
@@ -125,19 +104,13 @@ where
         (E.contents faults.old) (E.contents faults.new) }
 {
     match parsed(rt.alloc(), words) {
-        Ok(order) => done(rt, server, order, output, faults),
+        Ok(order) => done(rt, order, output, faults),
         Err(error) => shown(&error, output, faults),
     }
 }
 
 // Does what is asked.
-fn done<R, V: Server, W: Write, E: Write>(
-    rt: &R,
-    server: &V,
-    order: Order<'_>,
-    output: &mut W,
-    faults: &mut E,
-) -> u8
+fn done<R, W: Write, E: Write>(rt: &R, order: Order<'_>, output: &mut W, faults: &mut E) -> u8
 where
     R: Files + Input + AllocGlobal,
     requires { CanBeDone (task_of order) }
@@ -154,9 +127,17 @@ where
             split(rt, SplitOrder { file, parts, dir }, output, faults)
         }
         Order::Join { dir, least } => join(rt, dir, least, output, faults),
-        Order::Serve(serving) => server.serve(serving, faults),
-        Order::Proxy(proxying) => server.proxy(proxying, faults),
+        Order::Serve(_) => served_elsewhere(faults),
+        Order::Proxy(_) => served_elsewhere(faults),
     }
+}
+
+// Says that another program serves clients, and returns the exit status.
+fn served_elsewhere<E: Write>(faults: &mut E) -> u8
+    ensures { result ≡ 64 }
+{
+    let _ = printed("error: another program serves clients\n", faults);
+    64
 }
 
 // Reports on the file as is asked.
@@ -197,13 +178,9 @@ where
     if has_other_form(form) {
         return refused_beside(rt.alloc(), output, faults);
     }
-    if file == "-" {
-        return not_twice(faults);
-    }
-    match reads_twice(rt, file) {
-        Ok(true) => document_twice(rt, file, terms, output, faults),
-        Ok(false) => not_twice(faults),
-        Err(error) => Trouble::Device(error).told(file, faults),
+    match opened_twice(rt, file) {
+        Ok(twice) => document_twice(rt.alloc(), twice, file, terms, output, faults),
+        Err(fault) => fault.told(file, faults),
     }
 }
 
@@ -213,26 +190,23 @@ fn has_other_form(form: ReportTerms<'_>) -> bool {
     has_file || form.json || form.annotates || form.strict
 }
 
-// Reports in HTML on the file, which is opened twice.
-fn document_twice<R, W: Write, E: Write>(
-    rt: &R,
-    file: &str,
+// Reports in HTML on the file, which was opened twice.
+fn document_twice<F: Read + Drop, W: Write, E: Write>(
+    alloc: Global,
+    twice: Twice<F>,
+    name: &str,
     terms: AuditTerms,
     output: &mut W,
     faults: &mut E,
 ) -> u8
-where
-    R: Files + AllocGlobal,
     ensures { Documented terms result (W.contents output.old) (W.contents output.new)
         (E.contents faults.old) (E.contents faults.new) }
 {
-    let alloc = rt.alloc();
-    match (opened(rt, file), opened(rt, file)) {
-        (Ok(mut first), Ok(mut again)) => report_in_html(
-            alloc, terms, file, &mut first, &mut again, output, faults,
-        ),
-        (Err(error), _) | (_, Err(error)) => Trouble::Device(error).told(file, faults),
-    }
+    let Twice {
+        mut first,
+        mut again,
+    } = twice;
+    report_in_html(alloc, terms, name, &mut first, &mut again, output, faults)
 }
 
 // Reports on the file in text or JSON, if the baseline that is named is there.
@@ -404,50 +378,29 @@ where
     ensures { Explained terms.json terms.position result (W.contents output.old) (W.contents output.new)
         (E.contents faults.old) (E.contents faults.new) }
 {
-    match reads_twice(rt, file) {
-        Ok(true) => explained_twice(rt, file, terms, output, faults),
-        Ok(false) => not_twice(faults),
-        Err(error) => Trouble::Device(error).told(file, faults),
+    match opened_twice(rt, file) {
+        Ok(twice) => explained_twice(rt.alloc(), twice, file, terms, output, faults),
+        Err(fault) => fault.told(file, faults),
     }
 }
 
-// Whether each reading of it begins from its front, as of a regular file, or fails, as of a directory.
-fn reads_twice<R: Files>(rt: &R, file: &str) -> io::Result<bool> {
-    let found = fs::metadata(rt, file)?;
-    Ok(found.is_file() || found.is_dir())
-}
-
-// Says that what isn't a regular file isn't explained, and returns the exit status.
-fn not_twice<E: Write>(faults: &mut E) -> u8
-    ensures { result ≡ 64 }
-{
-    let _ = printed(
-        "error: it is read twice, so it can't be a pipe or a device\n",
-        faults,
-    );
-    64
-}
-
-// Explains a reply of the file, which is opened twice.
-fn explained_twice<R, W: Write, E: Write>(
-    rt: &R,
-    file: &str,
+// Explains a reply of the file, which was opened twice.
+fn explained_twice<F: Read + Drop, W: Write, E: Write>(
+    alloc: Global,
+    twice: Twice<F>,
+    name: &str,
     terms: ExplainTerms,
     output: &mut W,
     faults: &mut E,
 ) -> u8
-where
-    R: Files + AllocGlobal,
     ensures { ExplainedTwice terms.json terms.position result (W.contents output.old) (W.contents output.new)
         (E.contents faults.old) (E.contents faults.new) }
 {
-    let alloc = rt.alloc();
-    match (opened(rt, file), opened(rt, file)) {
-        (Ok(mut first), Ok(mut again)) => explain(
-            alloc, terms, file, &mut first, &mut again, output, faults,
-        ),
-        (Err(error), _) | (_, Err(error)) => Trouble::Device(error).told(file, faults),
-    }
+    let Twice {
+        mut first,
+        mut again,
+    } = twice;
+    explain(alloc, terms, name, &mut first, &mut again, output, faults)
 }
 
 // Shows records of the file, or of standard input for `-`.

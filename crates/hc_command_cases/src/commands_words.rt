@@ -1,6 +1,5 @@
 //! Words, and what the program answers to them.
 
-use crate::nobody::Nobody;
 use crate::written::Written;
 use hc_arguments::{Order, Proxying, parsed};
 use hc_cases::Unanswered;
@@ -42,7 +41,7 @@ where
 {
     let mut written = Written::nothing(system.alloc());
     let output = &mut written.output;
-    written.status = answered(system, &Nobody, words, output, &mut written.faults);
+    written.status = answered(system, words, output, &mut written.faults);
     written
 }
 

@@ -9,7 +9,6 @@ mod commands_steps;
 mod commands_tasks;
 mod commands_words;
 mod devices;
-mod nobody;
 mod program;
 mod verdicts_answers;
 mod verdicts_changes;

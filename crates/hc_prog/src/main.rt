@@ -1,5 +1,5 @@
-//! `hcache`: a program that audits, reports on, explains, converts and splits transcripts of caches, and has a cache of its own,
-//! to which it plays scripts of events and from which it serves clients, one after another or many at once.
+//! `hcache`: a program that audits, reports on, explains, shows, converts and splits transcripts of caches, and has a cache of
+//! its own, to which it plays scripts of events. Clients are served by another program, that of hc_proxy_prog.
 //!
 //! `hcache audit FILE` reads a transcript, says on standard output whether every reply in it is right, and ends with
 //! a status: 0 for a transcript that is right, 1 for one with a wrong reply, 2 for one that is malformed, 3 where no
@@ -17,21 +17,10 @@
 //!
 //! `hcache split FILE N DIR` splits a transcript into parts by target, and `hcache join DIR` says what the verdicts on them
 //! tell of the whole, by the line and the status of an audit.
-//!
-//! `hcache serve --listen A --origin B --connections N --record FILE` serves so many connections of clients, one after
-//! another, records both sides to the file, and prints nothing. It ends with 0, or with 3 where it couldn't go on.
-//!
-//! `hcache proxy --listen A --origin B` serves many connections at once, until it is stopped, and says on standard error
-//! where clients can connect, and what is amiss; with `--record FILE` it records both sides. It ends with 0, or with 3.
 #![tactic(auto)]
 
-mod serving;
-
-use crate::serving::Sockets;
-use hc_command::status;
 use std::process::ExitCode;
 
 fn main(rt: HostRuntime) -> ExitCode {
-    let sockets = Sockets { system: &rt };
-    ExitCode::from(status(&rt, &sockets, &mut rt.stdout(), &mut rt.stderr()))
+    ExitCode::from(hc_command::status(&rt, &mut rt.stdout(), &mut rt.stderr()))
 }

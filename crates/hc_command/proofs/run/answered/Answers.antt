@@ -2,10 +2,8 @@ use Rattle.std.proofs.Common.{false, inl, inr, map, None, subst}
 use Rattle.clap.specs.declared.error.ErrorKind.{ErrorKind}
 use Rattle.hc_options.specs.Commands.{IsErrorStatus}
 use Rattle.hc_arguments.specs.Tasks.{task_of}
-use Rattle.hc_arguments.specs.Tasks.Task.{ToAudit, ToReport, ToExplain, ToReplay, ToConvert, ToServe, ToProxy}
+use Rattle.hc_arguments.specs.Tasks.Task.{ToAudit, ToReport, ToExplain, ToReplay, ToConvert}
 use Rattle.hc_options.specs.Auditing.{plain_audit}
-use Rattle.hc_arguments.specs.Cache.{keys_proxied, keys_served, plain_cache}
-use Rattle.hc_arguments.specs.Limits.{plain_limits, plain_terms}
 use Rattle.hc_arguments.specs.Tasks.{explaining, plain_form}
 use Rattle.hc_arguments.proofs.ArgumentLemmas.{asked_from, one_task}
 use Rattle.hc_command.proofs.EndLemmas.{does_as, does_ends, fails_with_3}
@@ -30,15 +28,6 @@ returns-in-Ok-clause-replay g c = λ name file word same.
 pub returns-in-Ok-clause-convert : goal.returns-in-Ok-clause-convert
 returns-in-Ok-clause-convert g c = λ name file word same.
     does_as (task_of c.in-Ok.order) (ToConvert file) _ _ _ _ _ (c.in-Ok.ensures.convert name file word same) c.done.ensures
-
-pub returns-in-Ok-clause-serve : goal.returns-in-Ok-clause-serve
-returns-in-Ok-clause-serve g c = λ name listen origin number file connections one counts same.
-    does_as (task_of c.in-Ok.order) (ToServe listen origin connections file (plain_cache keys_served)) _ _ _ _ _
-    (c.in-Ok.ensures.serve name listen origin number file connections one counts same) c.done.ensures
-
-pub returns-in-Ok-clause-proxy : goal.returns-in-Ok-clause-proxy
-returns-in-Ok-clause-proxy g c = λ name listen origin one same.
-    does_as (task_of c.in-Ok.order) (ToProxy listen origin None None None plain_terms plain_limits false (plain_cache keys_proxied)) _ _ _ _ _ (c.in-Ok.ensures.proxy name listen origin one same) c.done.ensures
 
 pub returns-in-Ok-clause-asked : goal.returns-in-Ok-clause-asked
 returns-in-Ok-clause-asked g c = λ task none asks.
@@ -66,16 +55,6 @@ returns-in-Err-clause-replay g c = λ name file word same.
 pub returns-in-Err-clause-convert : goal.returns-in-Err-clause-convert
 returns-in-Err-clause-convert g c = λ name file word same.
     inl (subst (λ (k : ErrorKind). IsErrorStatus k c.shown.result) (c.in-Err.ensures.convert name file word same) c.shown.ensures.status)
-
-pub returns-in-Err-clause-serve : goal.returns-in-Err-clause-serve
-returns-in-Err-clause-serve g c = λ name listen origin number file connections one counts same.
-    let refused = c.in-Err.ensures.serve name listen origin number file connections one counts same in
-    (c.shown.ensures.memory refused, inl (subst (λ (k : ErrorKind). IsErrorStatus k c.shown.result) refused c.shown.ensures.status))
-
-pub returns-in-Err-clause-proxy : goal.returns-in-Err-clause-proxy
-returns-in-Err-clause-proxy g c = λ name listen origin one same.
-    let refused = c.in-Err.ensures.proxy name listen origin one same in
-    (c.shown.ensures.memory refused, inl (subst (λ (k : ErrorKind). IsErrorStatus k c.shown.result) refused c.shown.ensures.status))
 
 pub returns-in-Err-clause-asked : goal.returns-in-Err-clause-asked
 returns-in-Err-clause-asked g c = λ task none asks.

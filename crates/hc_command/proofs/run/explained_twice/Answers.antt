@@ -1,5 +1,5 @@
 use Rattle.hc_command.proofs.ReportLemmas.{explained_of}
 use Rattle.hc_command.proofs.run.explained_twice.Goals as goal
 
-pub returns-in-Ok-Ok : goal.returns-in-Ok-Ok
-returns-in-Ok-Ok g c = explained_of c.args.terms.json c.args.terms.position c.args.terms.settings _ _ _ _ c.explain.result _ _ _ _ c.explain.ensures.first c.explain.ensures.at
+pub returns : goal.returns
+returns g c = explained_of c.args.terms.json c.args.terms.position c.args.terms.settings _ _ _ _ c.explain.result _ _ _ _ c.explain.ensures.first c.explain.ensures.at

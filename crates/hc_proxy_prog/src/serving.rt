@@ -7,7 +7,6 @@ ghost use Rattle.hc_service.specs.Settings.{AreGood};
 
 use hc_arguments::{ProxyLimits, ProxyPatience, Proxying, RecordTerms, Serving};
 use hc_auditing::Trouble;
-use hc_command::Server;
 use hc_crowd::{Limits, Patience};
 use hc_service::CoreSettings;
 use hc_serving::{
@@ -38,28 +37,8 @@ impl Standard for HostRuntime {
     }
 }
 
-/// Serves clients by the sockets, the files, the clock and the random numbers of that system.
-#[derive(Clone, Copy)]
-pub(crate) struct Sockets<'a, R> {
-    pub(crate) system: &'a R,
-}
-
-impl<'a, R> Server for Sockets<'a, R>
-where
-    R: Files + Net + Clock + RandomSource + Standard + AllocGlobal,
-    R::File: Claim,
-{
-    fn serve<E: Write>(&self, serving: Serving<'_>, faults: &mut E) -> u8 {
-        served(self.system, serving, faults)
-    }
-
-    fn proxy<E: Write>(&self, proxying: Proxying<'_>, faults: &mut E) -> u8 {
-        proxied(self.system, proxying, faults)
-    }
-}
-
-// Serves clients, one connection after another.
-fn served<R, E: Write>(rt: &R, serving: Serving<'_>, faults: &mut E) -> u8
+/// Serves clients, one connection after another, and returns the exit status.
+pub(crate) fn served<R, E: Write>(rt: &R, serving: Serving<'_>, faults: &mut E) -> u8
 where
     R: Files + Net + Clock + RandomSource + AllocGlobal,
     R::File: Claim,
@@ -100,8 +79,8 @@ fn names_of<'a>(service: Service<'a>, listen: &'a [&'a str]) -> Proxy<'a> {
     }
 }
 
-// Serves many clients at once.
-fn proxied<R, E: Write>(rt: &R, proxying: Proxying<'_>, faults: &mut E) -> u8
+/// Serves many clients at once, and returns the exit status.
+pub(crate) fn proxied<R, E: Write>(rt: &R, proxying: Proxying<'_>, faults: &mut E) -> u8
 where
     R: Files + Net + Clock + RandomSource + Standard + AllocGlobal,
     R::File: Claim,
@@ -166,7 +145,7 @@ where
     }
 }
 
-// Serves many clients at once, and answers how that ended, or why it didn't begin.
+// Serves many clients at once, and returns how that ended, or why it didn't begin.
 fn proxy_ended<R, L: Target, E: Write>(
     rt: &R,
     proxy: Proxy<'_>,
@@ -234,7 +213,7 @@ fn milliseconds(seconds: u64) -> u64 {
     seconds.saturating_mul(1_000)
 }
 
-// Says why nobody is served any more, with the name of what failed, and answers the exit status.
+// Says why nobody is served any more, with the name of what failed, and returns the exit status.
 fn unserved<E: Write>(fault: ServeFault, names: Proxy<'_>, faults: &mut E) -> u8
     ensures { result ≡ 3 }
 {
@@ -259,14 +238,14 @@ fn unserved<E: Write>(fault: ServeFault, names: Proxy<'_>, faults: &mut E) -> u8
     }
 }
 
-// Says that something failed for that reason, which isn't the system's, and answers the exit status.
+// Says that something failed for that reason, which isn't the system's, and returns the exit status.
 fn broken<E: Write>(reason: &'static str, name: &str, faults: &mut E) -> u8
     ensures { result ≡ 3 }
 {
     Trouble::Device(io::Error::other(reason)).told(name, faults)
 }
 
-// Says that the system can't say what is ready, and answers the exit status.
+// Says that the system can't say what is ready, and returns the exit status.
 fn unpolled<E: Write>(reason: io::Error, faults: &mut E) -> u8
     ensures { result ≡ 3 }
 {
@@ -276,7 +255,7 @@ fn unpolled<E: Write>(reason: io::Error, faults: &mut E) -> u8
     )
 }
 
-// Says that a file is one to which nothing is recorded, and answers the exit status.
+// Says that a file is one to which nothing is recorded, and returns the exit status.
 fn unrecorded<E: Write>(kind: Unrecordable, name: &str, faults: &mut E) -> u8
     ensures { result ≡ 64 }
 {
@@ -287,7 +266,7 @@ fn unrecorded<E: Write>(kind: Unrecordable, name: &str, faults: &mut E) -> u8
     64
 }
 
-// Says that more files have to be open than may be, and answers the exit status.
+// Says that more files have to be open than may be, and returns the exit status.
 fn too_few_files<E: Write>(limit: u64, wanted: u64, faults: &mut E) -> u8
     ensures { result ≡ 3 }
 {
@@ -298,7 +277,7 @@ fn too_few_files<E: Write>(limit: u64, wanted: u64, faults: &mut E) -> u8
     3
 }
 
-// Says that a stop couldn't be seen, and answers the exit status.
+// Says that a stop couldn't be seen, and returns the exit status.
 fn without_signals<E: Write>(reason: io::Error, faults: &mut E) -> u8
     ensures { result ≡ 3 }
 {
