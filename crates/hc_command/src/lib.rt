@@ -1,5 +1,5 @@
 //! What the program `hcache` does beside audits: the report on all wrong replies of a transcript, the explanation of one,
-//! records as text, the replay of a script, the serving of clients, the conversion of a transcript, and the exit status.
+//! records as text, the replay of a script, the conversion of a transcript, and the exit status.
 #![tactic(auto)]
 
 mod baseline;

@@ -34,9 +34,11 @@ EndsTask (ToProxy listen origin file log told terms limits keeps_cookies setting
 abbrev pub Does : Task → ℕ → Option (List ℕ) → Option (List ℕ) → Option (List ℕ) → Option (List ℕ) → Type 0
 Does task status old new faults_old faults_new = Keeps old new × EndsTask task status faults_old faults_new
 
+-- so clients were served one after another
 abbrev pub Served : ℕ → Option (List ℕ) → Option (List ℕ) → Option (List ℕ) → Option (List ℕ) → Type 0
 Served status old new faults_old faults_new = Keeps old new × EndsServing status faults_old faults_new
 
+-- or many at once
 abbrev pub Proxied : ℕ → Option (List ℕ) → Option (List ℕ) → Option (List ℕ) → Option (List ℕ) → Type 0
 Proxied status old new faults_old faults_new = Keeps old new × EndsProxying status faults_old faults_new
 

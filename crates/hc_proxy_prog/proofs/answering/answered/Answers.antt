@@ -6,7 +6,7 @@ use Rattle.hc_arguments.specs.Tasks.Task.{ToServe, ToProxy}
 use Rattle.hc_arguments.specs.Cache.{keys_proxied, keys_served, plain_cache}
 use Rattle.hc_arguments.specs.Limits.{plain_limits, plain_terms}
 use Rattle.hc_arguments.proofs.ArgumentLemmas.{asked_from, one_task}
-use Rattle.hc_proxy_prog.proofs.EndLemmas.{does_as, does_ends, fails_with_3, unasked_ends}
+use Rattle.hc_proxy_prog.proofs.EndLemmas.{does_as, does_ends, fails_with_3}
 use Rattle.hc_proxy_prog.proofs.answering.answered.Goals as goal
 
 pub returns-in-Ok-clause-serve : goal.returns-in-Ok-clause-serve
