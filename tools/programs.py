@@ -140,7 +140,10 @@ def hcache(is_unproved=False):
 
 
 def program(command, is_unproved=False):
-    """The words by which the program is run that has that command, once it is built, and nothing before it."""
+    """The words by which the program is run that has that command, once it is built, and nothing before it; or the one
+    that HCACHE names."""
+    if IS_INSTALLED or "HCACHE" in os.environ:
+        return hcache()
     name = without_proof.crate_of(command)
     if is_unproved:
         return unproved(name)

@@ -1,5 +1,9 @@
 pub mod ChunkLemmas
 pub mod BodyLemmas
+pub mod PieceLemmas
+pub mod OrderLemmas
+pub mod CommonLemmas
+pub mod NotingLemmas
 pub mod FramingLemmas
 pub mod ReaderLemmas
 pub mod WholeLemmas

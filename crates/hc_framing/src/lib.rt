@@ -2,22 +2,31 @@
 #![tactic(auto)]
 
 mod body;
+mod body_view;
 mod fault;
 mod framing;
+mod framing_reader;
 mod head;
 mod kind;
 mod message;
+mod noting;
+mod places;
 mod progress;
 mod reader;
 mod text;
 mod whole;
 mod writing;
 
+pub use body_view::{BodySlices, BodyView, Piece};
 pub use fault::FrameFault;
 pub use framing::Framing;
 pub use head::MessageHead;
 pub use kind::Kind;
-pub use message::Message;
+pub use message::{
+    Message, MessageView, RequestView, ResponseView, copy_request, copy_response, lent_request,
+    lent_response,
+};
+pub use places::Places;
 pub use progress::Progress;
 pub use reader::MessageReader;
 pub use text::MessageText;
