@@ -7,7 +7,7 @@ ghost use Rattle.hc_directives.specs.Known.{known_directives};
 
 use crate::known::KnownDirectives;
 use crate::spelling::{Spelling, read_directive};
-use hc_fields::{Fields, Members};
+use hc_fields::{FieldsView, Lines, Members};
 use std::marker::Model;
 
 /// What a directive says of seconds.
@@ -39,21 +39,23 @@ impl Seconds {
 /// count of the members that are no directives. It lends the fields and takes no memory.
 #[derive(Drop)]
 pub struct Directives<'a> {
-    fields: &'a Fields,
+    fields: FieldsView<'a>,
 }
 
 impl<'a> Model for Directives<'a> {
     ghost Value = { CacheControl };
 
-    ghost view = { λ d. cache_control d.fields.now };
+    ghost view = { λ d. cache_control d.fields };
 }
 
 impl<'a> Directives<'a> {
     /// The directives in those fields, which are read anew by each call.
-    pub fn read(fields: &'a Fields) -> Self
-        ensures { result ≡ cache_control fields.now }
+    pub fn read<L: Lines>(fields: &'a L) -> Self
+        ensures { result ≡ cache_control (L.lines fields.now) }
     {
-        Directives { fields }
+        Directives {
+            fields: fields.lent(),
+        }
     }
 
     /// The members of the Cache-Control lines.

@@ -6,6 +6,7 @@ ghost use Rattle.std.specs.Str.{bytes_eq};
 ghost use Rattle.hc_fields.specs.Connection.{is_for_connection, is_for_proxy, is_named_by_connection, removed, left_out_of_store};
 
 use crate::fields::Fields;
+use crate::views::{FieldsView, Lines};
 
 /// The fields that are for one connection alone, whatever Connection names.
 const FOR_CONNECTION: [&[u8]; 7] = [
@@ -44,7 +45,7 @@ fn is_for_proxy(name: &[u8]) -> bool
     is_among(&FOR_PROXY, name)
 }
 
-impl Fields {
+impl<'a> FieldsView<'a> {
     /// Whether a member of a Connection line names that field, in any case.
     fn is_named_by_connection(&self, name: &[u8]) -> bool
         ensures { result ≡ is_named_by_connection name.now self.now }
@@ -67,5 +68,23 @@ impl Fields {
         ensures { result ≡ left_out_of_store name.now self.now }
     {
         self.removed(name) || is_for_proxy(name)
+    }
+}
+
+impl Fields {
+    /// Whether a field of that name is left out when a message with these lines is forwarded, as of
+    /// lines that are lent.
+    pub fn removed(&self, name: &[u8]) -> bool
+        ensures { result ≡ removed name.now self.now }
+    {
+        self.lent().removed(name)
+    }
+
+    /// Whether a field of that name is left out when a response with these lines is stored, as of
+    /// lines that are lent.
+    pub fn left_out_of_store(&self, name: &[u8]) -> bool
+        ensures { result ≡ left_out_of_store name.now self.now }
+    {
+        self.lent().left_out_of_store(name)
     }
 }

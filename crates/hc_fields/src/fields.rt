@@ -4,6 +4,7 @@ ghost use Rattle.std.specs.Iterator.{YieldsFirstRef, item_count};
 ghost use Rattle.hc_fields.specs.Values.{has_name, line, lines_of, without};
 
 use crate::octets::Octets;
+use crate::views::{FieldsView, Lines};
 use std::alloc::{AllocError, Global};
 use std::marker::Model;
 
@@ -110,11 +111,7 @@ impl Fields {
     pub fn copy(&self, alloc: Global) -> Result<Fields, AllocError>
         ensures { IfOk result (λ f. f ≡ self.now) }
     {
-        let mut copies = Fields::new(alloc);
-        for line in self.lines() {
-            copies.push(line.copy(alloc)?)?;
-        }
-        Ok(copies)
+        self.lent().copy(alloc)
     }
 
     /// The lines in order.
@@ -165,17 +162,14 @@ impl Fields {
     pub fn contains(&self, name: &[u8]) -> bool
         ensures { result ≡ has_name name.now self.now }
     {
-        self.lines.iter().any(|line| line.name.as_slice() == name)
+        self.lent().contains(name)
     }
 
     /// The values of the lines of that name, in order. The name is one in lower case.
     pub fn values<'a>(&'a self, name: &'a [u8]) -> Values<'a>
-        ensures { values_of result.name.now result.lines.now ≡ values_of name.now self.now }
+        ensures { values_of result.name.now result.lines ≡ values_of name.now self.now }
     {
-        Values {
-            name,
-            lines: self.lines.as_slice(),
-        }
+        self.lent().values(name)
     }
 
     /// The value of the line of that name, where there is exactly one. The name is one in lower
@@ -183,12 +177,7 @@ impl Fields {
     pub fn only<'a>(&'a self, name: &'a [u8]) -> Option<&'a [u8]>
         ensures { option_copied result ≡ only_value name.now self.now }
     {
-        let mut values = self.values(name);
-        let value = values.next()?;
-        if values.next().is_some() {
-            return None;
-        }
-        Some(value)
+        self.lent().only(name)
     }
 
     /// Removes the lines whose names newer ones have, and puts those at the end (RFC 9111 section
@@ -208,24 +197,15 @@ impl Fields {
     pub fn joined(&self, alloc: Global, name: &[u8]) -> Result<Option<Octets>, AllocError>
         ensures { IfOk result (λ o. o ≡ joined_values (values_of name.now self.now)) }
     {
-        let mut values = self.values(name);
-        let Some(first) = values.next() else {
-            return Ok(None);
-        };
-        let mut joined = Octets::from_slice(alloc, first)?;
-        for value in values {
-            joined.extend_from_slice(b", ")?;
-            joined.extend_from_slice(value)?;
-        }
-        Ok(Some(joined))
+        self.lent().joined(alloc, name)
     }
 }
 
 /// An iterator over the values of a name.
 #[derive(Drop)]
 pub struct Values<'a> {
-    name: &'a [u8],
-    lines: &'a [Field],
+    pub(crate) name: &'a [u8],
+    pub(crate) lines: FieldsView<'a>,
 }
 
 impl<'a> Iterator for Values<'a> {
@@ -233,15 +213,14 @@ impl<'a> Iterator for Values<'a> {
 
     type Item = &'a [u8];
 
-    ghost next_gives = { YieldsFirstRef (λ s. values_of s.name.now s.lines.now) };
+    ghost next_gives = { YieldsFirstRef (λ s. values_of s.name.now s.lines) };
 
-    ghost remaining = { item_count (λ s. values_of s.name.now s.lines.now) };
+    ghost remaining = { item_count (λ s. values_of s.name.now s.lines) };
 
     fn next(&mut self) -> Option<&'a [u8]> {
-        while let Some((first, rest)) = self.lines.split_first() {
-            self.lines = rest;
-            if first.name.as_slice() == self.name {
-                return Some(first.value.as_slice());
+        while let Some((name, value)) = self.lines.pass() {
+            if name == self.name {
+                return Some(value);
             }
         }
         None

@@ -9,6 +9,7 @@ mod numbers;
 mod octets;
 mod shared;
 mod tokens;
+mod views;
 mod waiting;
 
 pub use connection::is_among;
@@ -19,4 +20,5 @@ pub use numbers::{END_OF_MOMENTS, LARGEST_NUMBER, decimal, number};
 pub use octets::Octets;
 pub use shared::SharedOctets;
 pub use tokens::is_token;
+pub use views::{FieldsView, LineSpan, Lines};
 pub use waiting::Waiting;

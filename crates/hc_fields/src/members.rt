@@ -9,6 +9,7 @@ ghost use Rattle.hc_fields.specs.Lists.{list_members, members_of, closes_quotes}
 
 use crate::fields::{Fields, Values};
 use crate::lists::{ListMembers, list_members};
+use crate::views::{FieldsView, Lines};
 use std::marker::Model;
 
 /// An iterator over the members of the lists in all lines of a name, which contracts see as the
@@ -22,7 +23,7 @@ pub struct Members<'a> {
 impl<'a> Model for Members<'a> {
     ghost Value = { List (List ℕ) };
 
-    ghost view = { λ m. m.line ++ members_of m.values.name.now m.values.lines.now };
+    ghost view = { λ m. m.line ++ members_of m.values.name.now m.values.lines };
 }
 
 impl<'a> Iterator for Members<'a> {
@@ -42,17 +43,26 @@ impl<'a> Iterator for Members<'a> {
     }
 }
 
-impl Fields {
+impl<'a> FieldsView<'a> {
     /// The members of the lists in the lines of that name, in order. Each line is a list of its
     /// own: a quoted string that isn't closed doesn't reach into the next. The name is one in
     /// lower case.
-    pub fn members<'a>(&'a self, name: &'a [u8]) -> Members<'a>
+    pub fn members(&self, name: &'a [u8]) -> Members<'a>
         ensures { result ≡ members_of name.now self.now }
     {
         Members {
             line: list_members(b""),
             values: self.values(name),
         }
+    }
+}
+
+impl Fields {
+    /// The members of the lists in the lines of that name, in order, as of lines that are lent.
+    pub fn members<'a>(&'a self, name: &'a [u8]) -> Members<'a>
+        ensures { result ≡ members_of name.now self.now }
+    {
+        self.lent().members(name)
     }
 }
 

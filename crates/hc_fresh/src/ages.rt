@@ -3,7 +3,7 @@
 ghost use Rattle.std.specs.Prelude.{◌≡◌};
 ghost use Rattle.hc_fresh.specs.Ages.{age_stated, age_value, current_age, fresh, staleness};
 
-use hc_fields::{Fields, LARGEST_NUMBER, list_members, number};
+use hc_fields::{FieldsView, LARGEST_NUMBER, Lines, list_members, number};
 
 /// What the age of a response is counted from (RFC 9111 section 4.2.3), in seconds since 1 January
 /// 1970, but for the value of its Age.
@@ -20,7 +20,7 @@ pub struct Times {
 }
 
 /// The number that the first member of the first Age line is.
-fn stated_age(fields: &Fields) -> Option<u32>
+fn stated_age(fields: &FieldsView<'_>) -> Option<u32>
     ensures { result ≡ age_stated fields.now }
 {
     let line = fields.values(b"age").next()?;
@@ -28,10 +28,10 @@ fn stated_age(fields: &Fields) -> Option<u32>
 }
 
 /// The seconds that the Age of a response tells (RFC 9111 section 5.1), 0 where it tells none.
-pub fn age_value(fields: &Fields) -> u32
-    ensures { result ≡ age_value fields.now }
+pub fn age_value<L: Lines>(fields: &L) -> u32
+    ensures { result ≡ age_value (L.lines fields.now) }
 {
-    stated_age(fields).unwrap_or(0)
+    stated_age(&fields.lent()).unwrap_or(0)
 }
 
 /// The age of a response at a moment, in seconds.

@@ -5,11 +5,17 @@ ghost use Rattle.hc_fields.specs.Numbers.{end_of_moments};
 ghost use Rattle.hc_fresh.specs.DateLines.{date_stated, date_line, dated};
 
 use crate::dates::{date_text, read_date};
-use hc_fields::{Field, Fields, Octets};
+use hc_fields::{Field, Fields, FieldsView, Lines, Octets};
 use std::alloc::{AllocError, Global};
 
 /// The moment of the Date, where there is exactly one Date line and it is a date.
-pub fn date_stated(fields: &Fields) -> Option<u64>
+pub fn date_stated<L: Lines>(fields: &L) -> Option<u64>
+    ensures { result ≡ date_stated (L.lines fields.now) }
+{
+    date_in(&fields.lent())
+}
+
+fn date_in(fields: &FieldsView<'_>) -> Option<u64>
     ensures { result ≡ date_stated fields.now }
 {
     read_date(fields.only(b"date")?)

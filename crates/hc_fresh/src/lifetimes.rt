@@ -5,7 +5,7 @@ ghost use Rattle.hc_fresh.specs.Lifetimes.{seconds_stated, seconds_until, expire
 
 use crate::dates::read_date;
 use hc_directives::{Directives, Seconds};
-use hc_fields::{Fields, LARGEST_NUMBER};
+use hc_fields::{FieldsView, LARGEST_NUMBER, Lines};
 
 /// The lifetime that a directive states, if it is there.
 fn seconds_stated(said: Seconds) -> Option<u32>
@@ -29,7 +29,7 @@ fn seconds_until(date: u64, expires: &[u8]) -> u32
 }
 
 /// The lifetime that the first Expires states, if there is one.
-fn stated_by_expires(fields: &Fields, date: u64) -> Option<u32>
+fn stated_by_expires(fields: &FieldsView<'_>, date: u64) -> Option<u32>
     ensures { result ≡ expires_lifetime fields.now date }
 {
     let expires = fields.values(b"expires").next()?;
@@ -37,7 +37,7 @@ fn stated_by_expires(fields: &Fields, date: u64) -> Option<u32>
 }
 
 /// The lifetime that a response of that date states.
-fn stated(fields: &Fields, date: u64) -> Option<u32>
+fn stated(fields: &FieldsView<'_>, date: u64) -> Option<u32>
     ensures { result ≡ stated_lifetime fields.now date }
 {
     let known = Directives::read(fields).known();
@@ -51,15 +51,21 @@ fn stated(fields: &Fields, date: u64) -> Option<u32>
 }
 
 /// The freshness lifetime, in seconds, that a response of that date has in a shared cache.
-pub fn lifetime(fields: &Fields, date: u64) -> u32
-    ensures { result ≡ freshness_lifetime fields.now date }
+pub fn lifetime<L: Lines>(fields: &L, date: u64) -> u32
+    ensures { result ≡ freshness_lifetime (L.lines fields.now) date }
 {
-    stated(fields, date).unwrap_or(0)
+    stated(&fields.lent(), date).unwrap_or(0)
 }
 
 /// Whether a response states a lifetime, readable or not.
+pub fn explicit<L: Lines>(fields: &L) -> bool
+    ensures { result ≡ explicit (L.lines fields.now) }
+{
+    explicit_in(&fields.lent())
+}
+
 #[tactic(auto, using(hc_directives::proofs::KnownLemmas::seconds_are_there))]
-pub fn explicit(fields: &Fields) -> bool
+fn explicit_in(fields: &FieldsView<'_>) -> bool
     ensures { result ≡ explicit fields.now }
 {
     let known = Directives::read(fields).known();
@@ -67,8 +73,14 @@ pub fn explicit(fields: &Fields) -> bool
 }
 
 /// Whether a response says that a shared cache never serves it stale (RFC 9111 section 4.2.4).
+pub fn stale_forbidden<L: Lines>(fields: &L) -> bool
+    ensures { result ≡ stale_forbidden (L.lines fields.now) }
+{
+    stale_forbidden_in(&fields.lent())
+}
+
 #[tactic(auto, using(hc_directives::proofs::KnownLemmas::seconds_are_there))]
-pub fn stale_forbidden(fields: &Fields) -> bool
+fn stale_forbidden_in(fields: &FieldsView<'_>) -> bool
     ensures { result ≡ stale_forbidden fields.now }
 {
     let known = Directives::read(fields).known();

@@ -3,8 +3,8 @@
 ghost use Rattle.std.specs.Prelude.{◌≡◌, Some, option_copied};
 ghost use Rattle.hc_rules.specs.Conditions.{client_condition, has_stored, is_not_later, is_wildcard, lists_tag, match_weakly, only_date};
 
-use crate::tags::{tag, without_weak_mark};
-use hc_fields::{Fields, trimmed};
+use crate::tags::{tag_in, without_weak_mark};
+use hc_fields::{FieldsView, Lines, trimmed};
 use hc_fresh::read_date;
 use hc_head::StatusCode;
 
@@ -33,7 +33,7 @@ fn match_weakly(one: &[u8], other: &[u8]) -> bool
     without_weak_mark(one) == without_weak_mark(other)
 }
 
-fn lists_tag(presented: &Fields, tag: &[u8]) -> bool
+fn lists_tag(presented: &FieldsView<'_>, tag: &[u8]) -> bool
     ensures { result ≡ lists_tag presented.now (Some tag.now) }
 {
     presented
@@ -41,20 +41,20 @@ fn lists_tag(presented: &Fields, tag: &[u8]) -> bool
         .any(|member| match_weakly(member, tag))
 }
 
-fn has_stored(presented: &Fields, fields: &Fields) -> bool
+fn has_stored(presented: &FieldsView<'_>, fields: &FieldsView<'_>) -> bool
     ensures { result ≡ has_stored presented.now fields.now }
 {
     if is_wildcard(presented.only(b"if-none-match")) {
         return true;
     }
-    match tag(fields) {
+    match tag_in(fields) {
         Some(tag) => lists_tag(presented, tag),
         None => false,
     }
 }
 
 /// The date that the one line of that name is.
-fn only_date(name: &[u8], fields: &Fields) -> Option<u64>
+fn only_date(name: &[u8], fields: &FieldsView<'_>) -> Option<u64>
     ensures { result ≡ only_date name.now fields.now }
 {
     read_date(fields.only(name)?)
@@ -73,7 +73,17 @@ fn is_not_later(modified: Option<u64>, since: Option<u64>) -> bool
 /// that status and those fields: whether its If-None-Match lists the response's tag or is `*`, or,
 /// without an If-None-Match, whether the response isn't later than its If-Modified-Since. It never
 /// does for another status than 200.
-pub fn client_condition(presented: &Fields, status: StatusCode, fields: &Fields) -> bool
+pub fn client_condition<P: Lines, L: Lines>(
+    presented: &P,
+    status: StatusCode,
+    fields: &L,
+) -> bool
+    ensures { result ≡ client_condition (P.lines presented.now) status (L.lines fields.now) }
+{
+    condition_in(&presented.lent(), status, &fields.lent())
+}
+
+fn condition_in(presented: &FieldsView<'_>, status: StatusCode, fields: &FieldsView<'_>) -> bool
     ensures { result ≡ client_condition presented.now status fields.now }
 {
     if status != StatusCode::OK {

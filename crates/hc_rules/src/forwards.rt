@@ -3,9 +3,9 @@
 ghost use Rattle.std.specs.Prelude.{◌≡◌, ◌++◌, ◌∷◌, IfOk, OnOk};
 ghost use Rattle.hc_rules.specs.Forwards.{condition_lines, conditional_request, forward_head, front_lines, goes_forward, plain_request, unconditional_request, version_number, via_and_close, via_value, without_conditions};
 
-use crate::tags::validator;
+use crate::tags::validator_in;
 use crate::validators::Validator;
-use hc_fields::{Field, Fields, Octets};
+use hc_fields::{Field, Fields, FieldsView, Lines, Octets};
 use hc_head::{Method, RequestHead, Target, Version};
 use std::alloc::{AllocError, Global};
 
@@ -65,11 +65,11 @@ fn push_via_and_close(lines: &mut Fields, version: Version, name: &[u8]) -> Resu
 }
 
 /// Adds what asks whether the stored response with those fields still holds.
-fn push_condition(lines: &mut Fields, stored: &Fields) -> Result<(), AllocError>
+fn push_condition(lines: &mut Fields, stored: &FieldsView<'_>) -> Result<(), AllocError>
     ensures { OnOk result (lines.new ≡ lines.old ++ condition_lines stored.now) }
 {
     let alloc = lines.alloc();
-    match validator(stored) {
+    match validator_in(stored) {
         Validator::Tag(tag) => lines.push(Field::new(alloc, b"if-none-match", tag)?),
         Validator::Modified(date) => lines.push(Field::new(alloc, b"if-modified-since", date)?),
         Validator::Neither => Ok(()),
@@ -128,18 +128,18 @@ pub fn unconditional_request(
 /// A GET that asks the origin whether a stored response with those fields still holds (RFC 9111
 /// section 4.3.1), by its entity-tag, else by its Last-Modified, in place of the client's own
 /// conditions. Where the response has neither, nothing is asked.
-pub fn conditional_request(
+pub fn conditional_request<L: Lines>(
     alloc: Global,
     name: &[u8],
     target: &Target,
     received: &RequestHead,
-    stored: &Fields,
+    stored: &L,
 ) -> Result<RequestHead, AllocError>
-    ensures { IfOk result (λ head. head ≡ conditional_request name.now target.now received.now stored.now) }
+    ensures { IfOk result (λ head. head ≡ conditional_request name.now target.now received.now (L.lines stored.now)) }
 {
     let mut lines = front_lines(alloc, target, &received.fields)?;
     remove_conditions(&mut lines);
-    push_condition(&mut lines, stored)?;
+    push_condition(&mut lines, &stored.lent())?;
     push_via_and_close(&mut lines, received.version, name)?;
     forward_head(alloc, Method::GET, target, lines)
 }

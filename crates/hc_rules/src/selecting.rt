@@ -7,7 +7,7 @@ ghost use Rattle.std.specs.Str.{bytes_eq};
 ghost use Rattle.hc_fields.specs.Values.{has_name};
 ghost use Rattle.hc_rules.specs.Selecting.{agree, agree_by_members, agree_by_value, is_list_of_preferences, is_met, joined_lines, selects};
 
-use hc_fields::{Fields, Members, Octets, is_among, is_token, trimmed};
+use hc_fields::{FieldsView, Lines, Members, Octets, is_among, is_token, trimmed};
 use std::alloc::{AllocError, Global};
 
 /// The fields that are compared as lists of members.
@@ -25,7 +25,7 @@ fn is_list_of_preferences(name: &[u8]) -> bool
 }
 
 /// Whether both requests have the field, or neither.
-fn have_alike(name: &[u8], forwarded: &Fields, presented: &Fields) -> bool
+fn have_alike(name: &[u8], forwarded: &FieldsView<'_>, presented: &FieldsView<'_>) -> bool
     ensures { result ≡ beq (has_name name.now forwarded.now) (has_name name.now presented.now) }
 {
     forwarded.contains(name) == presented.contains(name)
@@ -45,7 +45,7 @@ fn same_members(ones: Members<'_>, mut others: Members<'_>) -> bool
     others.next().is_none()
 }
 
-fn agree_by_members(name: &[u8], forwarded: &Fields, presented: &Fields) -> bool
+fn agree_by_members(name: &[u8], forwarded: &FieldsView<'_>, presented: &FieldsView<'_>) -> bool
     ensures { result ≡ agree_by_members name.now forwarded.now presented.now }
 {
     have_alike(name, forwarded, presented)
@@ -53,7 +53,7 @@ fn agree_by_members(name: &[u8], forwarded: &Fields, presented: &Fields) -> bool
 }
 
 /// The lines of a name as one value, each trimmed.
-fn joined_lines(alloc: Global, name: &[u8], fields: &Fields) -> Result<Option<Octets>, AllocError>
+fn joined_lines(alloc: Global, name: &[u8], fields: &FieldsView<'_>) -> Result<Option<Octets>, AllocError>
     ensures { IfOk result (λ o. o ≡ joined_lines name.now fields.now) }
 {
     let mut values = fields.values(name);
@@ -71,8 +71,8 @@ fn joined_lines(alloc: Global, name: &[u8], fields: &Fields) -> Result<Option<Oc
 fn agree_by_value(
     alloc: Global,
     name: &[u8],
-    forwarded: &Fields,
-    presented: &Fields,
+    forwarded: &FieldsView<'_>,
+    presented: &FieldsView<'_>,
 ) -> Result<bool, AllocError>
     ensures { IfOk result (λ a. a ≡ agree_by_value name.now forwarded.now presented.now) }
 {
@@ -88,8 +88,8 @@ fn agree_by_value(
 fn agree(
     alloc: Global,
     name: &[u8],
-    forwarded: &Fields,
-    presented: &Fields,
+    forwarded: &FieldsView<'_>,
+    presented: &FieldsView<'_>,
 ) -> Result<bool, AllocError>
     ensures { IfOk result (λ a. a ≡ agree name.now forwarded.now presented.now) }
 {
@@ -101,11 +101,22 @@ fn agree(
 }
 
 /// Whether a member of Vary names a field, in any case, in which the requests agree.
-pub fn is_met(
+pub fn is_met<F: Lines, P: Lines>(
     alloc: Global,
     member: &[u8],
-    forwarded: &Fields,
-    presented: &Fields,
+    forwarded: &F,
+    presented: &P,
+) -> Result<bool, AllocError>
+    ensures { IfOk result (λ m. m ≡ is_met (F.lines forwarded.now) (P.lines presented.now) member.now) }
+{
+    is_met_in(alloc, member, &forwarded.lent(), &presented.lent())
+}
+
+fn is_met_in(
+    alloc: Global,
+    member: &[u8],
+    forwarded: &FieldsView<'_>,
+    presented: &FieldsView<'_>,
 ) -> Result<bool, AllocError>
     ensures { IfOk result (λ m. m ≡ is_met forwarded.now presented.now member.now) }
 {
@@ -118,11 +129,23 @@ pub fn is_met(
 
 /// Whether a response with those fields, which answered the first request as it was forwarded,
 /// is selected by the second. Without a Vary line no memory is taken.
-pub fn selects(
+pub fn selects<L: Lines, F: Lines, P: Lines>(
     alloc: Global,
-    fields: &Fields,
-    forwarded: &Fields,
-    presented: &Fields,
+    fields: &L,
+    forwarded: &F,
+    presented: &P,
+) -> Result<bool, AllocError>
+    ensures answer { IfOk result (λ s. s ≡ selects (L.lines fields.now) (F.lines forwarded.now) (P.lines presented.now)) }
+    ensures no_vary { has_name (codes "vary") (L.lines fields.now) ≡ false → IsOk result }
+{
+    selects_in(alloc, &fields.lent(), &forwarded.lent(), &presented.lent())
+}
+
+fn selects_in(
+    alloc: Global,
+    fields: &FieldsView<'_>,
+    forwarded: &FieldsView<'_>,
+    presented: &FieldsView<'_>,
 ) -> Result<bool, AllocError>
     ensures answer { IfOk result (λ s. s ≡ selects fields.now forwarded.now presented.now) }
     ensures no_vary { has_name (codes "vary") fields.now ≡ false → IsOk result }
@@ -131,7 +154,7 @@ pub fn selects(
         return Ok(true);
     }
     for member in fields.members(b"vary") {
-        if !is_met(alloc, member, forwarded, presented)? {
+        if !is_met_in(alloc, member, forwarded, presented)? {
             return Ok(false);
         }
     }

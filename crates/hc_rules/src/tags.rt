@@ -5,7 +5,7 @@ ghost use Rattle.std.specs.List.{list_all};
 ghost use Rattle.hc_rules.specs.Validators.{IsValidator, are_tag_octets, between_quotes, is_entity_tag, is_opaque_tag, has_permitted_length, is_tag_octet, last_modified_of, tag_of, without_weak_mark};
 
 use crate::validators::Validator;
-use hc_fields::Fields;
+use hc_fields::{FieldsView, Lines};
 
 /// A longer value is no validator.
 const LONGEST: usize = 1024;
@@ -60,7 +60,13 @@ fn is_entity_tag(value: &[u8]) -> bool
 
 /// The entity-tag of a response (RFC 9110 section 8.8.3), with the mark of a weak one: its one ETag
 /// line, of at most 1,024 octets.
-pub fn tag(fields: &Fields) -> Option<&[u8]>
+pub fn tag<L: Lines>(fields: &L) -> Option<&[u8]>
+    ensures { option_copied result ≡ tag_of (L.lines fields.now) }
+{
+    tag_in(&fields.lent())
+}
+
+pub(crate) fn tag_in<'a>(fields: &FieldsView<'a>) -> Option<&'a [u8]>
     ensures { option_copied result ≡ tag_of fields.now }
 {
     fields.only(b"etag").filter(|value| is_entity_tag(value))
@@ -68,7 +74,13 @@ pub fn tag(fields: &Fields) -> Option<&[u8]>
 
 /// The Last-Modified of a response (RFC 9110 section 8.8.2), be it a date or not: its one line, of at
 /// most 1,024 octets.
-pub fn last_modified(fields: &Fields) -> Option<&[u8]>
+pub fn last_modified<L: Lines>(fields: &L) -> Option<&[u8]>
+    ensures { option_copied result ≡ last_modified_of (L.lines fields.now) }
+{
+    last_modified_in(&fields.lent())
+}
+
+fn last_modified_in<'a>(fields: &FieldsView<'a>) -> Option<&'a [u8]>
     ensures { option_copied result ≡ last_modified_of fields.now }
 {
     fields
@@ -77,13 +89,19 @@ pub fn last_modified(fields: &Fields) -> Option<&[u8]>
 }
 
 /// What a response is validated by: its entity-tag, else its Last-Modified.
-pub fn validator(fields: &Fields) -> Validator<'_>
+pub fn validator<L: Lines>(fields: &L) -> Validator<'_>
+    ensures { IsValidator result (L.lines fields.now) }
+{
+    validator_in(&fields.lent())
+}
+
+pub(crate) fn validator_in<'a>(fields: &FieldsView<'a>) -> Validator<'a>
     ensures { IsValidator result fields.now }
 {
-    if let Some(tag) = tag(fields) {
+    if let Some(tag) = tag_in(fields) {
         return Validator::Tag(tag);
     }
-    match last_modified(fields) {
+    match last_modified_in(fields) {
         Some(date) => Validator::Modified(date),
         None => Validator::Neither,
     }

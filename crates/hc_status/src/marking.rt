@@ -9,7 +9,7 @@ use crate::fault::{MarkFault, SfFault};
 use crate::items::{Bare, Member};
 use crate::marks::Mark;
 use crate::members::list;
-use hc_fields::Fields;
+use hc_fields::{FieldsView, Lines};
 use std::alloc::Global;
 
 /// The name of the field.
@@ -17,7 +17,14 @@ const CACHE_STATUS: &[u8] = b"cache-status";
 
 /// The members of Cache-Status, of all its lines joined by comma and space; no line is the empty list
 /// (RFC 9211 section 2). A fault drops the whole field (RFC 8941 section 4.2).
-pub fn read_list(alloc: Global, fields: &Fields) -> Result<Vec<Member>, SfFault>
+pub fn read_list<L: Lines>(alloc: Global, fields: &L) -> Result<Vec<Member>, SfFault>
+    ensures ok { IfOk result (λ members. cache_status (L.lines fields.now) ≡ Ok members.items) }
+    ensures err { IfErr result (λ fault. Fails fault (cache_status (L.lines fields.now))) }
+{
+    list_in(alloc, &fields.lent())
+}
+
+fn list_in(alloc: Global, fields: &FieldsView<'_>) -> Result<Vec<Member>, SfFault>
     ensures ok { IfOk result (λ members. cache_status fields.now ≡ Ok members.items) }
     ensures err { IfErr result (λ fault. Fails fault (cache_status fields.now)) }
 {
@@ -85,10 +92,16 @@ fn mark_of_last(members: &[Member]) -> Mark
 }
 
 /// What Cache-Status says of a reply with these fields. A list that can't be read says nothing.
-pub fn mark(alloc: Global, fields: &Fields) -> Result<Mark, MarkFault>
+pub fn mark<L: Lines>(alloc: Global, fields: &L) -> Result<Mark, MarkFault>
+    ensures { IfOk result (λ mark. mark ≡ mark_of (L.lines fields.now)) }
+{
+    mark_in(alloc, &fields.lent())
+}
+
+fn mark_in(alloc: Global, fields: &FieldsView<'_>) -> Result<Mark, MarkFault>
     ensures { IfOk result (λ mark. mark ≡ mark_of fields.now) }
 {
-    match read_list(alloc, fields) {
+    match list_in(alloc, fields) {
         Ok(members) => Ok(mark_of_last(members.as_slice())),
         Err(SfFault::Memory) => Err(MarkFault::Memory),
         Err(SfFault::Syntax | SfFault::InnerList) => Ok(Mark::Unmarked),

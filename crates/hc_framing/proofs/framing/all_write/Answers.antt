@@ -11,6 +11,6 @@ pub returns : goal.returns
 returns c =
     let values = values_of (codes "content-length") c.args.fields.now in
     all_from_yields_List (λ value. each_writes c.args.length (members_of value)) c.all.new.self _ c.all.result c.all.ensures.ran
-    (YieldsList-from_first (λ x. x.now) (λ s. values_of s.name.now s.lines.now) values c.values.ensures)
+    (YieldsList-from_first (λ x. x.now) (λ s. values_of s.name.now s.lines) values c.values.ensures)
     (λ x b q k. search (rules, tests))
     ∙ each_line c.args.length values

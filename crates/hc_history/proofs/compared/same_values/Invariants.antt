@@ -8,5 +8,5 @@ use Rattle.hc_history.proofs.compared.same_values.Given as goal
 -- what is left of both decides
 abbrev pub invariant-loop-value : goal.invariant-loop-value
 invariant-loop-value l =
-    pointwise bytes_eq (values_of l.value-iterator.name.now l.value-iterator.lines.now) (values_of l.others.name.now l.others.lines.now)
+    pointwise bytes_eq (values_of l.value-iterator.name.now l.value-iterator.lines) (values_of l.others.name.now l.others.lines)
     ≡ same_values l.one l.other l.name

@@ -1,7 +1,7 @@
 use Rattle.std.proofs.Common.{◌≡◌}
 use Rattle.std.specs.List.{list_all}
 use Rattle.hc_rules.specs.Selecting.{is_met, selects}
-use Rattle.hc_rules.proofs.selecting.selects.Given as goal
+use Rattle.hc_rules.proofs.selecting.selects_in.Given as goal
 
 -- whether the members that are left are met decides
 abbrev pub invariant-loop-member : goal.invariant-loop-member

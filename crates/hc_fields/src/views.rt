@@ -1,0 +1,205 @@
+//! Field lines that are lent in one form, whoever keeps them.
+
+ghost use Rattle.std.specs.Prelude.{◌≡◌, ◌+◌, ◌≤◌, ◌==◌, ◌++◌, List, [], ◌∷◌, All, IfOk, MatchOption, length, map, option_copied};
+ghost use Rattle.hc_fields.specs.declared.fields.Field.{Field};
+ghost use Rattle.hc_fields.specs.Values.{has_name, joined_values, line, only_value, values_of};
+ghost use Rattle.hc_fields.specs.Views.{piece};
+
+use crate::fields::{Field, Fields, Values};
+use crate::octets::Octets;
+use std::alloc::{AllocError, Global};
+use std::marker::Model;
+
+/// Where the value of a field line stands in the octets of its head, and where its name stands among the names, which are
+/// in lower case.
+#[derive(Clone, Copy)]
+pub struct LineSpan {
+    /// Where the name begins, and how many octets it has.
+    pub name_start: usize,
+    pub name_len: usize,
+    /// Where the value begins, without the white space around it, and how many octets it has.
+    pub value_start: usize,
+    pub value_len: usize,
+}
+
+/// Field lines that are lent, which contracts see as the list of them: first those that somebody owns, and then those that
+/// lie in octets. One of the two is empty.
+#[derive(Drop)]
+pub struct FieldsView<'a> {
+    owned: &'a [Field],
+    names: &'a [u8],
+    octets: &'a [u8],
+    spans: &'a [LineSpan],
+}
+
+impl<'a> Model for FieldsView<'a> {
+    ghost use Rattle.std.specs.Prelude.{List, map, All, length, ◌++◌};
+    ghost use Rattle.hc_fields.specs.declared.fields.Field.{Field};
+    ghost use Rattle.hc_fields.specs.Views.{IsLineWithin, line_at};
+
+    ghost Value = { List Field };
+
+    ghost view = { λ v. v.owned.now ++ map (line_at v.names.now v.octets.now) v.spans.now };
+
+    ghost invariant = { λ v. All (IsLineWithin (length v.names.now) (length v.octets.now)) v.spans.now };
+}
+
+/// So many octets from a place on.
+fn piece(octets: &[u8], start: usize, len: usize) -> &[u8]
+    requires { start + len ≤ length octets.now }
+    ensures { result.now ≡ piece octets.now start len }
+{
+    let (_, behind) = octets.split_at(start);
+    let (piece, _) = behind.split_at(len);
+    piece
+}
+
+impl<'a> FieldsView<'a> {
+    ghost use Rattle.hc_fields.specs.Views.{IsLineWithin, line_at};
+
+    /// Lines that lie in octets.
+    pub fn at(names: &'a [u8], octets: &'a [u8], spans: &'a [LineSpan]) -> Self
+        requires { All (IsLineWithin (length names.now) (length octets.now)) spans.now }
+        ensures { result ≡ map (line_at names.now octets.now) spans.now }
+    {
+        FieldsView {
+            owned: &[],
+            names,
+            octets,
+            spans,
+        }
+    }
+
+    /// Lines that somebody owns.
+    pub fn of(owned: &'a [Field]) -> Self
+        ensures { result ≡ owned.now }
+    {
+        FieldsView {
+            owned,
+            names: &[],
+            octets: &[],
+            spans: &[],
+        }
+    }
+
+    /// The same lines, lent once more.
+    pub fn again(&self) -> FieldsView<'a>
+        ensures { result ≡ self.now }
+    {
+        FieldsView {
+            owned: self.owned,
+            names: self.names,
+            octets: self.octets,
+            spans: self.spans,
+        }
+    }
+
+    /// The name and the value of the first line, which is passed over.
+    pub fn pass(&mut self) -> Option<(&'a [u8], &'a [u8])>
+        ensures { MatchOption result ((self.old ≡ []) × (self.new ≡ []))
+            (λ p. self.old ≡ line p.0.now p.1.now ∷ self.new) }
+    {
+        let names = self.names;
+        let octets = self.octets;
+        if let Some((first, rest)) = self.owned.split_first() {
+            self.owned = rest;
+            return Some((first.name.as_slice(), first.value.as_slice()));
+        }
+        let (span, behind) = self.spans.split_first()?;
+        self.spans = behind;
+        let name = piece(names, span.name_start, span.name_len);
+        let value = piece(octets, span.value_start, span.value_len);
+        Some((name, value))
+    }
+
+    /// Whether there is a line of that name.
+    pub fn contains(&self, name: &[u8]) -> bool
+        ensures { result ≡ has_name name.now self.now }
+    {
+        let mut rest = self.again();
+        while let Some((one, _)) = rest.pass() {
+            if one == name {
+                return true;
+            }
+        }
+        false
+    }
+
+    /// The values of the lines of that name, in order. The name is one in lower case.
+    pub fn values(&self, name: &'a [u8]) -> Values<'a>
+        ensures { values_of result.name.now result.lines ≡ values_of name.now self.now }
+    {
+        Values {
+            name,
+            lines: self.again(),
+        }
+    }
+
+    /// The value of the line of that name, where there is exactly one. The name is one in lower
+    /// case.
+    pub fn only(&self, name: &'a [u8]) -> Option<&'a [u8]>
+        ensures { option_copied result ≡ only_value name.now self.now }
+    {
+        let mut values = self.values(name);
+        let value = values.next()?;
+        if values.next().is_some() {
+            return None;
+        }
+        Some(value)
+    }
+
+    /// The values of the lines of that name as one (RFC 9110 section 5.3), or `None` where there is
+    /// no such line. The name is one in lower case.
+    pub fn joined(&self, alloc: Global, name: &[u8]) -> Result<Option<Octets>, AllocError>
+        ensures { IfOk result (λ o. o ≡ joined_values (values_of name.now self.now)) }
+    {
+        let mut values = self.values(name);
+        let Some(first) = values.next() else {
+            return Ok(None);
+        };
+        let mut joined = Octets::from_slice(alloc, first)?;
+        for value in values {
+            joined.extend_from_slice(b", ")?;
+            joined.extend_from_slice(value)?;
+        }
+        Ok(Some(joined))
+    }
+
+    /// The same lines in memory of their own.
+    pub fn copy(&self, alloc: Global) -> Result<Fields, AllocError>
+        ensures { IfOk result (λ f. f ≡ self.now) }
+    {
+        let mut copies = Fields::new(alloc);
+        let mut rest = self.again();
+        while let Some((name, value)) = rest.pass() {
+            copies.push(Field::new(alloc, name, value)?)?;
+        }
+        Ok(copies)
+    }
+}
+
+/// Whoever has field lines.
+pub trait Lines {
+    /// The lines, with their names in lower case.
+    ghost lines: { Self → List Field };
+
+    /// The lines, lent.
+    fn lent(&self) -> FieldsView<'_>
+        ensures { result ≡ lines self.now };
+}
+
+impl<'a> Lines for FieldsView<'a> {
+    ghost lines = { λ v. v };
+
+    fn lent(&self) -> FieldsView<'_> {
+        self.again()
+    }
+}
+
+impl Lines for Fields {
+    ghost lines = { λ f. f };
+
+    fn lent(&self) -> FieldsView<'_> {
+        FieldsView::of(self.lines())
+    }
+}
