@@ -12,3 +12,4 @@ pub mod TargetLemmas
 pub mod PlainLemmas
 pub mod WeightLemmas
 pub mod ForwardLemmas
+pub mod PlaceLemmas

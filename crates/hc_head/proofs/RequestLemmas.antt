@@ -1,5 +1,5 @@
 -- The head of a request is read in one way, whatever follows it.
-use Rattle.std.proofs.Common.{◌≡◌, ℕ, List, ◌++◌, length, take, drop, map, sym, ap, subst, ◌∙◌, arith, length-take}
+use Rattle.std.proofs.Common.{◌≡◌, ℕ, List, ◌++◌, length, take, drop, map, refl, sym, ap, subst, ◌∙◌, arith, length-take}
 use Rattle.std.proofs.lemmas.List.{take-append-drop, length-map}
 use Rattle.httparse.specs.declared.spans.HeaderSpan.{HeaderSpan}
 use Rattle.httparse.specs.declared.spans.RequestSpans.{RequestSpans}
@@ -12,7 +12,9 @@ use Rattle.hc_head.specs.Heads.{field_at, field_of, version_of, request_head_of,
 -- other names of its laws
 pub use Rattle.hc_head.specs.Laws.{request_goes_on as begins-append, request_within as begins_within, request_some as begins_some, request_front as begins-take}
 use Rattle.hc_head.specs.Reading.{IsWholeHead, HasNoHead, NeverHasHead, HasManyFields, CanBecomeHead}
+use Rattle.hc_head.specs.Places.{covered_request}
 use Rattle.hc_head.specs.Unfinished.{HasHopelessTarget, MayHaveTarget}
+use Rattle.hc_head.proofs.PlaceLemmas.{request_in_front}
 use Rattle.hc_head.proofs.ReadingLemmas.{fields_same}
 use Rattle.hc_head.proofs.UnfinishedLemmas.{never_request, can_request}
 
@@ -29,6 +31,14 @@ head_same octets spans found syntax head at method target version fields =
     let version-is = version ∙ ap version_of at.version in
     let fields-is = fields ∙ fields_same octets (take found.headers spans) syntax.fields at.fields in
     λ i. record { method = method-is i; target = target-is i; version = version-is i; fields = fields-is i }
+
+-- what the spans cover, in all octets, is the head that the front of them writes
+pub request_covered : (octets front : List ℕ) (n : ℕ) (spans : List HeaderSpan) (found : RequestSpans) → front ≡ take n octets → IsRequestWithin front spans found
+    → (syntax : SyntaxTree) → IsRequestAt front spans found syntax → covered_request octets spans found ≡ request_head_of syntax
+request_covered octets front n spans found front-is within syntax at =
+    request_in_front octets n spans found (subst (λ (o : List ℕ). IsRequestWithin o spans found) front-is within)
+    ∙ ap (λ (o : List ℕ). covered_request o spans found) (sym front-is)
+    ∙ head_same front spans found syntax (covered_request front spans found) at refl refl refl refl
 
 -- ---- laws of the relation
 

@@ -1,5 +1,5 @@
 -- The head of a response is read in one way, whatever follows it.
-use Rattle.std.proofs.Common.{◌≡◌, ℕ, ◌≤◌, true, false, List, ◌++◌, length, take, drop, map, sym, ap, subst, ◌∙◌, arith, length-take}
+use Rattle.std.proofs.Common.{◌≡◌, ℕ, ◌≤◌, true, false, List, ◌++◌, length, take, drop, map, refl, sym, ap, subst, ◌∙◌, arith, length-take}
 use Rattle.std.proofs.lemmas.List.{take-append-drop, length-map}
 use Rattle.httparse.specs.declared.spans.HeaderSpan.{HeaderSpan}
 use Rattle.httparse.specs.declared.spans.ResponseSpans.{ResponseSpans}
@@ -12,10 +12,13 @@ use Rattle.hc_head.specs.declared.head.Room.{Room}
 use Rattle.hc_head.specs.Heads.{field_at, field_of, version_of, response_head_of, response_field_count, BeginsResponseHead}
 -- other names of its laws
 pub use Rattle.hc_head.specs.Laws.{response_goes_on as begins-append, response_within as begins_within, response_some as begins_some, response_front as begins-take}
+use Rattle.hc_head.specs.declared.responses.FoundResponse.{FoundResponse}
+use Rattle.hc_head.specs.Places.{covered_response}
 use Rattle.hc_head.specs.Reading.{IsWholeHead, HasNoHead, NeverHasHead, HasManyFields, CanBecomeHead}
 use Rattle.hc_head.specs.Statuses.{IsStatus}
 use Rattle.hc_head.specs.Unfinished.{has_low_status}
 use Rattle.hc_head.proofs.DigitLemmas.{status_small}
+use Rattle.hc_head.proofs.PlaceLemmas.{response_in_front}
 use Rattle.hc_head.proofs.ReadingLemmas.{fields_same}
 use Rattle.hc_head.proofs.UnfinishedLemmas.{never_response, can_response}
 
@@ -31,6 +34,15 @@ head_same octets spans found syntax head at status version fields =
     let version-is = version ∙ ap version_of at.version in
     let fields-is = fields ∙ fields_same octets (take found.headers spans) syntax.fields at.fields in
     λ i. record { status = status-is i; version = version-is i; fields = fields-is i }
+
+-- what the spans cover, in all octets, is the head that the front of them writes
+pub response_covered : (octets front : List ℕ) (n : ℕ) (spans : List HeaderSpan) (found : FoundResponse) → front ≡ take n octets → IsResponseWithin front spans found.spans
+    → found.status ≡ found.spans.code
+    → (syntax : SyntaxTree) → IsResponseAt front spans found.spans syntax → covered_response octets spans found ≡ response_head_of syntax
+response_covered octets front n spans found front-is within status syntax at =
+    response_in_front octets n spans found (subst (λ (o : List ℕ). IsResponseWithin o spans found.spans) front-is within)
+    ∙ ap (λ (o : List ℕ). covered_response o spans found) (sym front-is)
+    ∙ head_same front spans found.spans syntax (covered_response front spans found) at status refl refl
 
 -- ---- laws of the relation
 

@@ -13,5 +13,6 @@ pub mod Writable
 pub mod Plain
 pub mod Weights
 pub mod Methods
+pub mod Places
 pub mod MethodNames
 pub mod Statuses

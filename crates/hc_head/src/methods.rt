@@ -113,7 +113,14 @@ pub fn is_get(method: &Method) -> bool
 pub fn is_head(method: &Method) -> bool
     ensures { result ≡ is_head method.now }
 {
-    method.as_slice() == b"HEAD".as_slice()
+    names_head(method.as_slice())
+}
+
+/// Whether the octets are the method HEAD.
+pub(crate) fn names_head(method: &[u8]) -> bool
+    ensures { result ≡ is_head method.now }
+{
+    method == b"HEAD".as_slice()
 }
 
 /// Whether a cache may answer the method from what it stores.
@@ -124,17 +131,17 @@ pub fn is_get_or_head(method: &Method) -> bool
 }
 
 /// Whether the method is OPTIONS (RFC 9110 section 9.3.7).
-pub(crate) fn is_options(method: &Method) -> bool
+pub(crate) fn is_options(method: &[u8]) -> bool
     ensures { result ≡ bytes_eq method.now (codes "OPTIONS") }
 {
-    method.as_slice() == b"OPTIONS".as_slice()
+    method == b"OPTIONS".as_slice()
 }
 
 /// Whether the method is CONNECT (RFC 9110 section 9.3.6).
-pub(crate) fn is_connect(method: &Method) -> bool
+pub(crate) fn is_connect(method: &[u8]) -> bool
     ensures { result ≡ bytes_eq method.now (codes "CONNECT") }
 {
-    method.as_slice() == b"CONNECT".as_slice()
+    method == b"CONNECT".as_slice()
 }
 
 fn is_safe(method: &Method) -> bool
@@ -142,7 +149,7 @@ fn is_safe(method: &Method) -> bool
 {
     is_get(method)
         || is_head(method)
-        || is_options(method)
+        || is_options(method.as_slice())
         || method.as_slice() == b"TRACE".as_slice()
 }
 

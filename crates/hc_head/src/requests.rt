@@ -1,10 +1,10 @@
 //! Heads of requests.
 
 ghost use Rattle.std.specs.Prelude.{◌≡◌, ℕ, List, ◌++◌, length, take, IfOk};
-ghost use Rattle.httparse.specs.Grammar.{RequestHead as Syntax};
-ghost use Rattle.httparse.specs.Spans.{IsRequestWithin, IsRequestAt, RequestExceeds};
+ghost use Rattle.httparse.specs.Spans.{IsRequestWithin, RequestExceeds};
 ghost use Rattle.hc_head.specs.declared.head.RequestHead.{RequestHead};
-ghost use Rattle.hc_head.specs.Heads.{BeginsRequestHead, request_field_count, request_head_of};
+ghost use Rattle.hc_head.specs.Heads.{BeginsRequestHead, request_field_count};
+ghost use Rattle.hc_head.specs.Places.{covered, covered_request, OnSpans};
 ghost use Rattle.hc_head.specs.Reading.{IsWholeHead, GivesHead, FindsHead, CanBecomeHead, OnUnfinished, OnTooManyFields};
 
 use crate::fault::HeadFault;
@@ -17,6 +17,36 @@ use httparse::spans::{EMPTY_HEADER_SPAN, HeaderSpan, RequestSpans, parse_request
 use httparse::{Error, Status};
 use std::alloc::{AllocError, Global};
 
+/// Finds the spans of the head that begins the octets, of which no more than the room are looked at.
+pub(crate) fn find_request(
+    bytes: &[u8],
+    room: Room,
+    spans: &mut [HeaderSpan],
+) -> Result<Step<RequestSpans>, HeadFault>
+    requires { length spans.old ≡ room.fields }
+    ensures gives { GivesHead BeginsRequestHead request_field_count
+        (covered (covered_request bytes.now spans.new) result) bytes.now room }
+    ensures within { OnSpans (λ found len. IsRequestWithin bytes.now spans.new found × (len ≡ found.len)) result }
+    ensures unfinished { OnUnfinished result (CanBecomeHead BeginsRequestHead (take room.octets bytes.now)) }
+    ensures too_many { OnTooManyFields result (RequestExceeds room.fields (take room.octets bytes.now)) }
+{
+    let front = front_of(bytes, room.octets);
+    match parse_request(front, spans) {
+        Ok(Status::Complete(found)) => Ok(Step::Whole(found, found.len)),
+        Ok(Status::Partial) => {
+            if has_hopeless_target(front) {
+                Err(HeadFault::Syntax)
+            } else if bytes.len() < room.octets {
+                Ok(Step::More)
+            } else {
+                Err(HeadFault::TooLong)
+            }
+        }
+        Err(Error::TooManyHeaders) => Err(HeadFault::TooManyFields),
+        Err(_) => Err(HeadFault::Syntax),
+    }
+}
+
 /// The head that the spans cover.
 fn head_at(
     alloc: Global,
@@ -25,8 +55,7 @@ fn head_at(
     spans: &[HeaderSpan],
 ) -> Result<RequestHead, AllocError>
     requires { IsRequestWithin bytes.now spans.now found }
-    ensures { (syntax : Syntax) → IsRequestAt bytes.now spans.now found syntax
-        → IfOk result (λ head. head ≡ request_head_of syntax) }
+    ensures { IfOk result (λ head. head ≡ covered_request bytes.now spans.now found) }
 {
     Ok(RequestHead {
         method: Method::from_slice(alloc, found.method.of(bytes))?,
@@ -47,23 +76,13 @@ fn read_into(
     ensures unfinished { OnUnfinished result (CanBecomeHead BeginsRequestHead (take room.octets bytes.now)) }
     ensures too_many { OnTooManyFields result (RequestExceeds room.fields (take room.octets bytes.now)) }
 {
-    let front = front_of(bytes, room.octets);
-    match parse_request(front, spans) {
-        Ok(Status::Complete(found)) => {
-            let head = head_at(alloc, front, found, spans)?;
-            Ok(Step::Whole(head, found.len))
+    match find_request(bytes, room, spans) {
+        Err(fault) => Err(fault),
+        Ok(Step::More) => Ok(Step::More),
+        Ok(Step::Whole(found, len)) => {
+            let head = head_at(alloc, bytes, found, spans)?;
+            Ok(Step::Whole(head, len))
         }
-        Ok(Status::Partial) => {
-            if has_hopeless_target(front) {
-                Err(HeadFault::Syntax)
-            } else if bytes.len() < room.octets {
-                Ok(Step::More)
-            } else {
-                Err(HeadFault::TooLong)
-            }
-        }
-        Err(Error::TooManyHeaders) => Err(HeadFault::TooManyFields),
-        Err(_) => Err(HeadFault::Syntax),
     }
 }
 

@@ -1,10 +1,10 @@
 //! Heads of responses.
 
 ghost use Rattle.std.specs.Prelude.{◌≡◌, ℕ, List, ◌++◌, length, take, IfOk};
-ghost use Rattle.httparse.specs.Grammar.{ResponseHead as Syntax};
-ghost use Rattle.httparse.specs.Spans.{IsResponseWithin, IsResponseAt, ResponseExceeds};
+ghost use Rattle.httparse.specs.Spans.{IsResponseWithin, ResponseExceeds};
 ghost use Rattle.hc_head.specs.declared.head.ResponseHead.{ResponseHead};
-ghost use Rattle.hc_head.specs.Heads.{BeginsResponseHead, response_field_count, response_head_of};
+ghost use Rattle.hc_head.specs.Heads.{BeginsResponseHead, response_field_count};
+ghost use Rattle.hc_head.specs.Places.{covered, covered_response, OnSpans};
 ghost use Rattle.hc_head.specs.Reading.{IsWholeHead, GivesHead, FindsHead, CanBecomeHead, OnUnfinished, OnTooManyFields};
 
 use crate::fault::HeadFault;
@@ -16,24 +16,67 @@ use httparse::spans::{EMPTY_HEADER_SPAN, HeaderSpan, ResponseSpans, parse_respon
 use httparse::{Error, Status};
 use std::alloc::{AllocError, Global};
 
+/// The status of a response, and the spans of its head.
+#[derive(Clone, Copy)]
+pub(crate) struct FoundResponse {
+    pub status: StatusCode,
+    pub spans: ResponseSpans,
+}
+
+/// Finds the spans of the head that begins the octets, of which no more than the room are looked at.
+pub(crate) fn find_response(
+    bytes: &[u8],
+    room: Room,
+    spans: &mut [HeaderSpan],
+) -> Result<Step<FoundResponse>, HeadFault>
+    requires { length spans.old ≡ room.fields }
+    ensures gives { GivesHead BeginsResponseHead response_field_count
+        (covered (covered_response bytes.now spans.new) result) bytes.now room }
+    ensures within { OnSpans (λ found len. IsResponseWithin bytes.now spans.new found.spans × (len ≡ found.spans.len))
+        result }
+    ensures unfinished { OnUnfinished result (CanBecomeHead BeginsResponseHead (take room.octets bytes.now)) }
+    ensures too_many { OnTooManyFields result (ResponseExceeds room.fields (take room.octets bytes.now)) }
+{
+    let front = front_of(bytes, room.octets);
+    match parse_response(front, spans) {
+        Ok(Status::Complete(found)) => {
+            let Some(status) = StatusCode::from_u16(found.code) else {
+                return Err(HeadFault::Syntax);
+            };
+            let response = FoundResponse {
+                status,
+                spans: found,
+            };
+            Ok(Step::Whole(response, found.len))
+        }
+        Ok(Status::Partial) => {
+            if has_low_status(front) {
+                Err(HeadFault::Syntax)
+            } else if bytes.len() < room.octets {
+                Ok(Step::More)
+            } else {
+                Err(HeadFault::TooLong)
+            }
+        }
+        Err(Error::TooManyHeaders) => Err(HeadFault::TooManyFields),
+        Err(_) => Err(HeadFault::Syntax),
+    }
+}
+
 /// The head that the spans cover.
 fn head_at(
     alloc: Global,
     bytes: &[u8],
-    status: StatusCode,
-    found: ResponseSpans,
+    found: FoundResponse,
     spans: &[HeaderSpan],
 ) -> Result<ResponseHead, AllocError>
-    requires within { IsResponseWithin bytes.now spans.now found }
-    requires status { status ≡ found.code }
-    ensures status { IfOk result (λ head. head.status ≡ found.code) }
-    ensures head { (syntax : Syntax) → IsResponseAt bytes.now spans.now found syntax
-        → IfOk result (λ head. head ≡ response_head_of syntax) }
+    requires { IsResponseWithin bytes.now spans.now found.spans }
+    ensures { IfOk result (λ head. head ≡ covered_response bytes.now spans.now found) }
 {
     Ok(ResponseHead {
-        status,
-        version: version_of(found.version),
-        fields: fields_at(alloc, bytes, &spans[..found.headers])?,
+        status: found.status,
+        version: version_of(found.spans.version),
+        fields: fields_at(alloc, bytes, &spans[..found.spans.headers])?,
     })
 }
 
@@ -48,26 +91,13 @@ fn read_into(
     ensures unfinished { OnUnfinished result (CanBecomeHead BeginsResponseHead (take room.octets bytes.now)) }
     ensures too_many { OnTooManyFields result (ResponseExceeds room.fields (take room.octets bytes.now)) }
 {
-    let front = front_of(bytes, room.octets);
-    match parse_response(front, spans) {
-        Ok(Status::Complete(found)) => {
-            let Some(status) = StatusCode::from_u16(found.code) else {
-                return Err(HeadFault::Syntax);
-            };
-            let head = head_at(alloc, front, status, found, spans)?;
-            Ok(Step::Whole(head, found.len))
+    match find_response(bytes, room, spans) {
+        Err(fault) => Err(fault),
+        Ok(Step::More) => Ok(Step::More),
+        Ok(Step::Whole(found, len)) => {
+            let head = head_at(alloc, bytes, found, spans)?;
+            Ok(Step::Whole(head, len))
         }
-        Ok(Status::Partial) => {
-            if has_low_status(front) {
-                Err(HeadFault::Syntax)
-            } else if bytes.len() < room.octets {
-                Ok(Step::More)
-            } else {
-                Err(HeadFault::TooLong)
-            }
-        }
-        Err(Error::TooManyHeaders) => Err(HeadFault::TooManyFields),
-        Err(_) => Err(HeadFault::Syntax),
     }
 }
 

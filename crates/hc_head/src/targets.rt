@@ -20,7 +20,8 @@ ghost use Rattle.hc_head.specs.Targets.{Asterisk, FindsTarget, FollowsScheme, Gi
 use crate::fault::HeadFault;
 use crate::head::{RequestHead, Target};
 use crate::hosts::{HostAndPort, host_and_port, normal_host};
-use crate::methods::{Method, is_connect, is_options};
+use crate::methods::{is_connect, is_options};
+use crate::views::RequestHeadView;
 use hc_fields::Octets;
 use http_uri::{PathAndQuery, UriError};
 use std::alloc::{AllocError, Global};
@@ -40,7 +41,7 @@ struct AbsoluteForm<'a> {
 }
 
 /// The one Host line.
-fn host_line(head: &RequestHead) -> Option<HostAndPort<'_>>
+fn host_line<'a>(head: &RequestHeadView<'a>) -> Option<HostAndPort<'a>>
     ensures found { IfSome result (λ host. HasHost head.now (authority_of host)) }
     ensures none { IfNone result ((host : Authority) → ¬ (HasHost head.now host)) }
 {
@@ -96,10 +97,10 @@ fn is_origin_form(alloc: Global, text: &[u8]) -> Result<bool, HeadFault>
     }
 }
 
-fn is_asterisk_form(head: &RequestHead) -> bool
+fn is_asterisk_form(head: &RequestHeadView<'_>) -> bool
     ensures { IsTrue result ↔ HasForm head.now Asterisk }
 {
-    head.target.as_slice() == b"*".as_slice() && is_options(&head.method)
+    head.target == b"*".as_slice() && is_options(head.method)
 }
 
 /// What follows the scheme.
@@ -151,7 +152,7 @@ fn absolute_form(alloc: Global, text: &[u8]) -> Result<Option<AbsoluteForm<'_>>,
     Ok(Some(AbsoluteForm { authority, rest }))
 }
 
-fn absolute_path(alloc: Global, method: &Method, rest: &[u8]) -> Result<Octets, AllocError>
+fn absolute_path(alloc: Global, method: &[u8], rest: &[u8]) -> Result<Octets, AllocError>
     ensures { IfOk result (λ path. path ≡ absolute_path method.now rest.now) }
 {
     match rest.first() {
@@ -166,15 +167,13 @@ fn absolute_path(alloc: Global, method: &Method, rest: &[u8]) -> Result<Octets, 
     }
 }
 
-fn may_name(head: &RequestHead) -> bool
+fn may_name(head: &RequestHeadView<'_>) -> bool
     ensures { IsTrue result ↔ MayName head.now }
 {
-    !is_connect(&head.method)
-        && !head.target.as_slice().contains(&b'#')
-        && head.target.len() <= LONGEST_TARGET
+    !is_connect(head.method) && !head.target.contains(&b'#') && head.target.len() <= LONGEST_TARGET
 }
 
-fn read_target(alloc: Global, head: &RequestHead) -> Result<Target, HeadFault>
+fn read_target(alloc: Global, head: &RequestHeadView<'_>) -> Result<Target, HeadFault>
     ensures { GivesTarget result head.now }
 {
     let Some(host) = host_line(head) else {
@@ -183,23 +182,33 @@ fn read_target(alloc: Global, head: &RequestHead) -> Result<Target, HeadFault>
     if !may_name(head) {
         return Err(HeadFault::Target);
     }
-    if is_asterisk_form(head) || is_origin_form(alloc, head.target.as_slice())? {
+    if is_asterisk_form(head) || is_origin_form(alloc, head.target)? {
         return Ok(Target {
             host: normal_host(alloc, host)?,
-            path: head.target.copy(alloc)?,
+            path: Octets::from_slice(alloc, head.target)?,
         });
     }
-    let Some(form) = absolute_form(alloc, head.target.as_slice())? else {
+    let Some(form) = absolute_form(alloc, head.target)? else {
         return Err(HeadFault::Target);
     };
     Ok(Target {
         host: normal_host(alloc, form.authority)?,
-        path: absolute_path(alloc, &head.method, form.rest)?,
+        path: absolute_path(alloc, head.method, form.rest)?,
     })
 }
 
 /// The target of a request. A wrong Host line is told before a wrong target.
 pub fn target(alloc: Global, head: &RequestHead) -> Result<Target, HeadFault>
+    // Each answer stands only where it says so.
+    ensures gives { GivesTarget result head.now }
+    // A target that is there is found, unless memory runs out.
+    ensures found { (target : Target) → HasTarget head.now target → FindsTarget result target }
+{
+    read_target(alloc, &head.lent())
+}
+
+/// The target of a request that is lent.
+pub fn lent_target(alloc: Global, head: &RequestHeadView<'_>) -> Result<Target, HeadFault>
     // Each answer stands only where it says so.
     ensures gives { GivesTarget result head.now }
     // A target that is there is found, unless memory runs out.

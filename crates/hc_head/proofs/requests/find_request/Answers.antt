@@ -1,11 +1,12 @@
 use Rattle.std.proofs.Common.{arith}
-use Rattle.hc_head.proofs.RequestLemmas.{whole_head, no_head_in_room, many_fields, no_text, may_become}
-use Rattle.hc_head.proofs.requests.read_into.Goals as goal
+use Rattle.hc_head.proofs.RequestLemmas.{request_covered, whole_head, no_head_in_room, many_fields, no_text, may_become}
+use Rattle.hc_head.proofs.requests.find_request.Goals as goal
 
-pub returns-in_ok-head-in-Ok-Complete-clause-gives : goal.returns-in_ok-head-in-Ok-Complete-clause-gives
-returns-in_ok-head-in-Ok-Complete-clause-gives c =
+pub returns-in-Ok-Complete-clause-gives : goal.returns-in-Ok-Complete-clause-gives
+returns-in-Ok-Complete-clause-gives c =
     whole_head c.args.bytes.now c.front_of-front.result.now c.args.room c.parse_request.new.headers c.in-Ok-Complete.found _
-    c.front_of-front.ensures (omega (arith, c.requires)) (rw c.in-Ok-Complete.field-0-is at c.in-Ok-Complete.ensures.within) (rw c.in-Ok-Complete.field-0-is at c.in-Ok-Complete.ensures.complete) c.in_ok-head-in-Ok-Complete.ensures
+    c.front_of-front.ensures (omega (arith, c.requires)) (rw c.in-Ok-Complete.field-0-is at c.in-Ok-Complete.ensures.within) (rw c.in-Ok-Complete.field-0-is at c.in-Ok-Complete.ensures.complete)
+    (request_covered c.args.bytes.now c.front_of-front.result.now c.args.room.octets c.parse_request.new.headers c.in-Ok-Complete.found c.front_of-front.ensures (rw c.in-Ok-Complete.field-0-is at c.in-Ok-Complete.ensures.within))
 
 pub returns-else-bytes-room-clause-gives : goal.returns-else-bytes-room-clause-gives
 returns-else-bytes-room-clause-gives c =

@@ -1,11 +1,13 @@
 use Rattle.std.proofs.Common.{sym, ◌∙◌, arith}
-use Rattle.hc_head.proofs.ResponseLemmas.{whole_head, no_head_in_room, many_fields, no_status, low_status, may_become}
-use Rattle.hc_head.proofs.responses.read_into.Goals as goal
+use Rattle.hc_head.proofs.ResponseLemmas.{response_covered, whole_head, no_head_in_room, many_fields, no_status, low_status, may_become}
+use Rattle.hc_head.proofs.responses.find_response.Goals as goal
 
-pub returns-in_ok-head-in-Ok-Complete-clause-gives : goal.returns-in_ok-head-in-Ok-Complete-clause-gives
-returns-in_ok-head-in-Ok-Complete-clause-gives c =
+pub returns-in-Some-clause-gives : goal.returns-in-Some-clause-gives
+returns-in-Some-clause-gives c =
     whole_head c.args.bytes.now c.front_of-front.result.now c.args.room c.parse_response.new.headers c.in-Ok-Complete.found _
-    c.front_of-front.ensures (omega (arith, c.requires)) (rw c.in-Ok-Complete.field-0-is at c.in-Ok-Complete.ensures.within) (rw c.in-Ok-Complete.field-0-is at c.in-Ok-Complete.ensures.complete) c.in_ok-head-in-Ok-Complete.ensures.head (omega (arith, c.in_ok-head-in-Ok-Complete.ensures.status))
+    c.front_of-front.ensures (omega (arith, c.requires)) (rw c.in-Ok-Complete.field-0-is at c.in-Ok-Complete.ensures.within) (rw c.in-Ok-Complete.field-0-is at c.in-Ok-Complete.ensures.complete)
+    (response_covered c.args.bytes.now c.front_of-front.result.now c.args.room.octets c.parse_response.new.headers _ c.front_of-front.ensures (rw c.in-Ok-Complete.field-0-is at c.in-Ok-Complete.ensures.within) c.in-Some.ensures.1)
+    (omega (arith, c.in-Some.ensures.0.0, c.in-Some.ensures.1))
 
 pub returns-else-bytes-room-clause-gives : goal.returns-else-bytes-room-clause-gives
 returns-else-bytes-room-clause-gives c =
