@@ -7,7 +7,7 @@ ghost use Rattle.hc_fields.specs.Lists.{trimmed};
 ghost use Rattle.hc_framing.specs.Framing.{is_comma, members_of, member_length, first_length, each_writes, coded, sized, framing_by, ends_with_head, request_framing, response_framing};
 
 use crate::fault::FrameFault;
-use hc_fields::{Fields, decimal, trimmed};
+use hc_fields::{FieldsView, decimal, trimmed};
 use hc_head::{LONGEST_BODY, StatusCode, Version, is_interim};
 
 /// No length has more digits.
@@ -62,7 +62,7 @@ fn each_writes(length: u64, value: &[u8]) -> bool
 }
 
 /// Whether each member of each Content-Length writes that length.
-fn all_write(length: u64, fields: &Fields) -> bool
+fn all_write(length: u64, fields: &FieldsView<'_>) -> bool
     ensures { result ≡ each_writes length (flat_map members_of
         (values_of (codes "content-length") fields.now)) }
 {
@@ -72,7 +72,7 @@ fn all_write(length: u64, fields: &Fields) -> bool
 }
 
 /// The framing of a message with a Transfer-Encoding: `chunked` is the only coding.
-fn coded(fields: &Fields) -> Result<Framing, FrameFault>
+fn coded(fields: &FieldsView<'_>) -> Result<Framing, FrameFault>
     ensures { result ≡ coded fields.now }
 {
     let mut values = fields.values(b"transfer-encoding");
@@ -85,7 +85,7 @@ fn coded(fields: &Fields) -> Result<Framing, FrameFault>
 }
 
 /// The framing of a message without one: by its Content-Length, if there is one.
-fn sized(default: Framing, fields: &Fields) -> Result<Framing, FrameFault>
+fn sized(default: Framing, fields: &FieldsView<'_>) -> Result<Framing, FrameFault>
     ensures { result ≡ sized default fields.now }
 {
     let Some(first) = fields.values(b"content-length").next() else {
@@ -104,7 +104,11 @@ fn sized(default: Framing, fields: &Fields) -> Result<Framing, FrameFault>
 }
 
 /// The framing by the fields, or the default where none of them tells it.
-fn framing_by(default: Framing, version: Version, fields: &Fields) -> Result<Framing, FrameFault>
+fn framing_by(
+    default: Framing,
+    version: Version,
+    fields: &FieldsView<'_>,
+) -> Result<Framing, FrameFault>
     ensures { result ≡ framing_by default version fields.now }
 {
     let has_coding = fields.contains(b"transfer-encoding");
@@ -122,7 +126,10 @@ fn framing_by(default: Framing, version: Version, fields: &Fields) -> Result<Fra
 }
 
 /// How the body of a request is framed.
-pub(crate) fn request_framing(version: Version, fields: &Fields) -> Result<Framing, FrameFault>
+pub(crate) fn request_framing(
+    version: Version,
+    fields: &FieldsView<'_>,
+) -> Result<Framing, FrameFault>
     ensures { result ≡ request_framing version fields.now }
 {
     framing_by(Framing::Nothing, version, fields)
@@ -143,7 +150,7 @@ pub(crate) fn response_framing(
     to_head: bool,
     status: StatusCode,
     version: Version,
-    fields: &Fields,
+    fields: &FieldsView<'_>,
 ) -> Result<Framing, FrameFault>
     ensures { result ≡ response_framing to_head status version fields.now }
 {
