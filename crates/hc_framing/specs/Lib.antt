@@ -11,4 +11,5 @@ pub mod Faults
 pub mod Reader
 pub mod ReaderParts
 pub mod WholeParts
+pub mod Places
 pub mod Written

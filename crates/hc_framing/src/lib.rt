@@ -7,6 +7,7 @@ mod framing;
 mod head;
 mod kind;
 mod message;
+mod places;
 mod progress;
 mod reader;
 mod text;
@@ -17,7 +18,11 @@ pub use fault::FrameFault;
 pub use framing::Framing;
 pub use head::MessageHead;
 pub use kind::Kind;
-pub use message::Message;
+pub use message::{
+    Message, MessageView, RequestView, ResponseView, copy_request, copy_response, lent_request,
+    lent_response,
+};
+pub use places::Places;
 pub use progress::Progress;
 pub use reader::MessageReader;
 pub use text::MessageText;

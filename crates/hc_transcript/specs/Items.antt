@@ -7,6 +7,8 @@ use Rattle.hc_head.specs.Methods.{is_head}
 use Rattle.hc_framing.specs.declared.message.Message.{Message}
 use Rattle.hc_transcript.specs.declared.item.Meaning.{Meaning}
 use Rattle.hc_transcript.specs.declared.item.Meaning.TheVariants as meaning
+use Rattle.hc_transcript.specs.declared.item.MeaningView.{MeaningView}
+use Rattle.hc_transcript.specs.declared.item.MeaningView.TheVariants as seen
 use Rattle.hc_transcript.specs.declared.item.OwnedItem.{OwnedItem}
 use Rattle.hc_transcript.specs.declared.line.Kind.{Kind}
 use Rattle.hc_transcript.specs.declared.line.Kind.TheVariants as kind
@@ -61,10 +63,25 @@ item_with number moment (meaning.ClientReply reply) = ClientReply number moment 
 abbrev pub item_of : OwnedItem → Item
 item_of item = item_with item.number item.moment item.of
 
--- the kind of the record that bears the meaning
-abbrev pub meaning_kind : Meaning → Kind
-meaning_kind (meaning.ClientRequest request target) = kind.ClientRequest
-meaning_kind (meaning.OriginRequest request target cause) = kind.OriginRequest
-meaning_kind (meaning.OriginResponse response) = kind.OriginResponse
-meaning_kind meaning.OriginFailure = kind.OriginFailure
-meaning_kind (meaning.ClientReply reply) = kind.ClientReply
+-- what a meaning that is lent is under a number, at a moment
+abbrev pub item_seen : ℕ → ℕ → MeaningView → Item
+item_seen number moment (seen.ClientRequest request target) = ClientRequest number moment request target.now
+item_seen number moment (seen.OriginRequest request target cause) = OriginRequest number moment request target.now cause
+item_seen number moment (seen.OriginResponse response) = OriginResponse number moment response
+item_seen number moment seen.OriginFailure = OriginFailure number moment
+item_seen number moment (seen.ClientReply reply) = ClientReply number moment reply
+
+-- the kind of the record that bears the item, and the number that it has
+abbrev pub item_kind : Item → Kind
+item_kind (ClientRequest number moment request target) = kind.ClientRequest
+item_kind (OriginRequest number moment request target cause) = kind.OriginRequest
+item_kind (OriginResponse number moment response) = kind.OriginResponse
+item_kind (OriginFailure number moment) = kind.OriginFailure
+item_kind (ClientReply number moment reply) = kind.ClientReply
+
+abbrev pub item_number : Item → ℕ
+item_number (ClientRequest number moment request target) = number
+item_number (OriginRequest number moment request target cause) = number
+item_number (OriginResponse number moment response) = number
+item_number (OriginFailure number moment) = number
+item_number (ClientReply number moment reply) = number

@@ -1,5 +1,5 @@
 -- Plumbing: what the functions that read a record's octets answer.
-use Rattle.std.specs.Prelude.{◌≡◌, ℕ, ◌⊎◌, Bool, List, Option, Some, None, Result, Ok, Err}
+use Rattle.std.specs.Prelude.{◌⊎◌, Bool, List, Option, Some, None, Result, Ok, Err}
 use Rattle.hc_head.specs.declared.fault.HeadFault.{HeadFault}
 use Rattle.hc_head.specs.declared.fault.HeadFault.TheVariants as heads
 use Rattle.hc_head.specs.declared.head.RequestHead.{RequestHead}
@@ -12,12 +12,13 @@ use Rattle.hc_transcript.specs.declared.fault.RecordFault.{RecordFault}
 use Rattle.hc_transcript.specs.declared.fault.RecordFault.TheVariants as fault
 use Rattle.hc_transcript.specs.declared.format.Format.{Format}
 use Rattle.hc_transcript.specs.declared.framed.Framed.{Framed}
-use Rattle.hc_transcript.specs.declared.item.Meaning.{Meaning}
-use Rattle.hc_transcript.specs.declared.item.OwnedItem.{OwnedItem}
 use Rattle.hc_transcript.specs.declared.line.Kind.{Kind}
+use Rattle.hc_transcript.specs.declared.line.Kind.TheVariants as kind
 use Rattle.hc_transcript.specs.declared.line.Line.{Line}
-use Rattle.hc_transcript.specs.declared.line.ToldCause.{ToldCause}
-use Rattle.hc_transcript.specs.Items.{item_of, item_with, meaning_kind}
+use Rattle.hc_transcript.specs.declared.places.RecordPlaces.{RecordPlaces}
+use Rattle.hc_framing.specs.Places.{request_at, response_at}
+use Rattle.hc_transcript.specs.Items.{Item, ClientRequest, OriginRequest, OriginResponse, OriginFailure, ClientReply}
+use Rattle.hc_transcript.specs.Records.{exchange_told}
 use Rattle.hc_transcript.specs.Transcript.{ReadsRequest, ReadsResponse, IsItemOf}
 use Rattle.hc_transcript.specs.Malformed.{IsFramed, IsUnfinished, BreaksLine, IsNoRequest, LacksTarget, IsNoResponse, IsInterim, IsNoMessage}
 
@@ -52,17 +53,27 @@ abbrev pub GivesResponseRead : Bool → Result (Message ResponseHead) RecordFaul
 GivesResponseRead to_head (Ok response) octets = ReadsResponse to_head octets response
 GivesResponseRead to_head (Err f) octets = Refuses f (IsNoResponse to_head octets ⊎ IsInterim to_head octets)
 
-abbrev pub GivesMeaning : Kind → ToldCause → Bool → List ℕ → Result Meaning RecordFault → Type 0
-GivesMeaning kind cause to_head octets (Ok of) = (meaning_kind of ≡ kind) × ((number moment : ℕ) → IsItemOf kind cause number moment to_head octets (item_with number moment of))
-GivesMeaning kind cause to_head octets (Err f) = Refuses f (IsNoMessage kind to_head octets)
+-- the request, or the response, in place of the unit, where it was found
+abbrev pub found_request : Result (Unit {0}) RecordFault → Message RequestHead → Target → Result (Message RequestHead × Target) RecordFault
+found_request (Ok done) request target = Ok (request, target)
+found_request (Err f) request target = Err f
 
--- the item is that of a record with the line
-pub record IsItemWith (l : Line) (to_head : Bool) (octets : List ℕ) (item : OwnedItem) : Type 0 where
-  pub number : item.number ≡ l.number
-  pub moment : item.moment ≡ l.moment
-  pub kind : meaning_kind item.of ≡ l.kind
-  pub reads : IsItemOf l.kind l.cause l.number l.moment to_head octets (item_of item)
+abbrev pub found_response : Result (Unit {0}) RecordFault → Message ResponseHead → Result (Message ResponseHead) RecordFault
+found_response (Ok done) response = Ok response
+found_response (Err f) response = Err f
 
-abbrev pub GivesItem : Line → Bool → List ℕ → Result OwnedItem RecordFault → Type 0
-GivesItem l to_head octets (Ok item) = IsItemWith l to_head octets item
-GivesItem l to_head octets (Err f) = Refuses f (IsNoMessage l.kind to_head octets)
+-- what stands there in the octets of a record with that line
+abbrev pub item_by : Kind → RecordPlaces → Line → List ℕ → Item
+item_by kind.ClientRequest p l octets = ClientRequest l.number l.moment (request_at p.places octets) p.target
+item_by kind.OriginRequest p l octets = OriginRequest l.number l.moment (request_at p.places octets) p.target (exchange_told l.cause)
+item_by kind.OriginResponse p l octets = OriginResponse l.number l.moment (response_at p.places octets)
+item_by kind.OriginFailure p l octets = OriginFailure l.number l.moment
+item_by kind.ClientReply p l octets = ClientReply l.number l.moment (response_at p.places octets)
+
+abbrev pub item_at : RecordPlaces → Line → List ℕ → Item
+item_at p l octets = item_by l.kind p l octets
+
+-- what the answer says where the item stands there
+abbrev pub GivesItem : Line → Bool → List ℕ → Result (Unit {0}) RecordFault → Item → Type 0
+GivesItem l to_head octets (Ok done) item = IsItemOf l.kind l.cause l.number l.moment to_head octets item
+GivesItem l to_head octets (Err f) item = Refuses f (IsNoMessage l.kind to_head octets)

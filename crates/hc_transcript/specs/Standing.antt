@@ -4,7 +4,6 @@ use Rattle.std.specs.Option.{option_map}
 use Rattle.std.specs.Ordering.{nat_cmp}
 use Rattle.std.specs.BTreeMap.{get}
 use Rattle.hc_head.specs.Methods.{is_head}
-use Rattle.hc_transcript.specs.declared.item.OwnedItem.{OwnedItem}
 use Rattle.hc_transcript.specs.declared.fault.RecordFault.{RecordFault}
 use Rattle.hc_transcript.specs.declared.line.Kind.{Kind}
 use Rattle.hc_transcript.specs.declared.line.Kind.TheVariants as kind
@@ -13,7 +12,7 @@ use Rattle.hc_transcript.specs.declared.line.ToldCause.{ToldCause}
 use Rattle.hc_transcript.specs.declared.line.ToldCause.TheVariants as told
 use Rattle.hc_transcript.specs.declared.open_numbers.Standing.{Standing}
 use Rattle.hc_transcript.specs.Limits.{greatest_number}
-use Rattle.hc_transcript.specs.Items.{Item, Exchange, Forward, meaning_kind}
+use Rattle.hc_transcript.specs.Items.{Item, Exchange, Forward, item_kind, item_number}
 use Rattle.hc_transcript.specs.Checks.{first_fault}
 use Rattle.hc_transcript.specs.History.{exchange_of, forward_of, last_moment, last_exchange, last_forward}
 
@@ -50,8 +49,8 @@ CanFollowAs kind.OriginResponse s number = IsSome (get nat_cmp s.forwards number
 CanFollowAs kind.OriginFailure s number = IsSome (get nat_cmp s.forwards number)
 CanFollowAs kind.ClientReply s number = IsSome (get nat_cmp s.exchanges number)
 
-abbrev pub CanFollow : Standing → OwnedItem → Type 0
-CanFollow s item = CanFollowAs (meaning_kind item.of) s item.number
+abbrev pub CanFollow : Standing → Item → Type 0
+CanFollow s item = CanFollowAs (item_kind item) s (item_number item)
 
 -- what a record makes of it
 pub record OpensExchange (old new : Standing) (number moment : ℕ) (is_head : Bool) : Type 0 where

@@ -13,7 +13,7 @@ mod line;
 mod numerals;
 mod open_numbers;
 mod reader;
-mod reading;
+mod places;
 mod record;
 mod writing;
 

@@ -4,15 +4,14 @@ ghost use Rattle.std.specs.Prelude.{◌≡◌, ℕ, ◌+◌, ◌*◌, ◌<◌, �
 ghost use Rattle.std.specs.Ordering.{nat_cmp};
 ghost use Rattle.std.specs.BTreeMap.{get, btree_map_len};
 ghost use Rattle.hc_transcript.specs.Limits.{greatest_number};
-ghost use Rattle.hc_transcript.specs.Items.{Item, item_of};
+ghost use Rattle.hc_transcript.specs.Items.{Item};
 ghost use Rattle.hc_transcript.specs.Checks.{has_right_length, has_right_number, has_right_cause, answers_open};
 ghost use Rattle.hc_transcript.specs.Transcript.{is_to_head};
 
 use crate::fault::RecordFault;
-use crate::item::{Meaning, OwnedItem};
+use crate::item::{MeaningView, RecordView};
 use crate::limits::{GREATEST_MOMENT, GREATEST_NUMBER, LONGEST_MESSAGE};
 use crate::line::{Kind, Line, ToldCause};
-use hc_head::is_head;
 use std::alloc::{AllocError, Global};
 use std::collections::BTreeMap;
 
@@ -142,23 +141,23 @@ impl Standing {
     }
 
     /// Notes the next record. After an `Err` it counts as many records as before.
-    pub(crate) fn note(&mut self, item: &OwnedItem) -> Result<(), AllocError>
-        requires { CanFollow self.old item.now }
-        ensures ok { (h : List Item) → StandsAs self.old h → OnOk result (StandsAs self.new (item_of item.now ∷ h)) }
+    pub(crate) fn note(&mut self, record: &RecordView<'_>) -> Result<(), AllocError>
+        requires { CanFollow self.old record.now }
+        ensures ok { (h : List Item) → StandsAs self.old h → OnOk result (StandsAs self.new (record.now ∷ h)) }
         ensures records { self.new.records ≡ (if is_ok result then self.old.records + 1 else self.old.records) }
     {
-        let number = item.number;
-        let moment = item.moment;
-        match &item.of {
-            Meaning::ClientRequest { request, .. } => {
-                self.open_exchange(number, moment, is_head(&request.head.method))
+        let number = record.number;
+        let moment = record.moment;
+        match &record.of {
+            MeaningView::ClientRequest { request, .. } => {
+                self.open_exchange(number, moment, request.head.is_head())
             }
-            Meaning::OriginRequest { request, .. } => {
-                self.open_forward(number, moment, is_head(&request.head.method))
+            MeaningView::OriginRequest { request, .. } => {
+                self.open_forward(number, moment, request.head.is_head())
             }
-            Meaning::OriginResponse(_) => Ok(self.close_forward(number, moment)),
-            Meaning::OriginFailure => Ok(self.close_forward(number, moment)),
-            Meaning::ClientReply(_) => Ok(self.close_exchange(number, moment)),
+            MeaningView::OriginResponse(_) => Ok(self.close_forward(number, moment)),
+            MeaningView::OriginFailure => Ok(self.close_forward(number, moment)),
+            MeaningView::ClientReply(_) => Ok(self.close_exchange(number, moment)),
         }
     }
 
