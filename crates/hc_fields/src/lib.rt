@@ -20,5 +20,5 @@ pub use numbers::{END_OF_MOMENTS, LARGEST_NUMBER, decimal, number};
 pub use octets::Octets;
 pub use shared::SharedOctets;
 pub use tokens::is_token;
-pub use views::{FieldsView, LineSpan, Lines};
+pub use views::{FieldsView, LineSpan, Lines, piece};
 pub use waiting::Waiting;

@@ -1,6 +1,6 @@
 //! Field lines that are lent in one form, whoever keeps them.
 
-ghost use Rattle.std.specs.Prelude.{◌≡◌, ◌+◌, ◌≤◌, ◌==◌, ◌++◌, List, [], ◌∷◌, All, IfOk, MatchOption, length, map, option_copied};
+ghost use Rattle.std.specs.Prelude.{◌≡◌, ◌==◌, ◌++◌, List, [], ◌∷◌, IfOk, MatchOption, map, option_copied};
 ghost use Rattle.hc_fields.specs.declared.fields.Field.{Field};
 ghost use Rattle.hc_fields.specs.Values.{has_name, joined_values, line, only_value, values_of};
 ghost use Rattle.hc_fields.specs.Views.{piece};
@@ -33,33 +33,29 @@ pub struct FieldsView<'a> {
 }
 
 impl<'a> Model for FieldsView<'a> {
-    ghost use Rattle.std.specs.Prelude.{List, map, All, length, ◌++◌};
+    ghost use Rattle.std.specs.Prelude.{List, map, ◌++◌};
     ghost use Rattle.hc_fields.specs.declared.fields.Field.{Field};
-    ghost use Rattle.hc_fields.specs.Views.{IsLineWithin, line_at};
+    ghost use Rattle.hc_fields.specs.Views.{line_at};
 
     ghost Value = { List Field };
 
     ghost view = { λ v. v.owned.now ++ map (line_at v.names.now v.octets.now) v.spans.now };
-
-    ghost invariant = { λ v. All (IsLineWithin (length v.names.now) (length v.octets.now)) v.spans.now };
 }
 
-/// So many octets from a place on.
-fn piece(octets: &[u8], start: usize, len: usize) -> &[u8]
-    requires { start + len ≤ length octets.now }
+/// So many octets from a place on, or those of them that are there.
+pub fn piece(octets: &[u8], start: usize, len: usize) -> &[u8]
     ensures { result.now ≡ piece octets.now start len }
 {
-    let (_, behind) = octets.split_at(start);
-    let (piece, _) = behind.split_at(len);
+    let (_, behind) = octets.split_at(start.min(octets.len()));
+    let (piece, _) = behind.split_at(len.min(behind.len()));
     piece
 }
 
 impl<'a> FieldsView<'a> {
-    ghost use Rattle.hc_fields.specs.Views.{IsLineWithin, line_at};
+    ghost use Rattle.hc_fields.specs.Views.{line_at};
 
     /// Lines that lie in octets.
     pub fn at(names: &'a [u8], octets: &'a [u8], spans: &'a [LineSpan]) -> Self
-        requires { All (IsLineWithin (length names.now) (length octets.now)) spans.now }
         ensures { result ≡ map (line_at names.now octets.now) spans.now }
     {
         FieldsView {
