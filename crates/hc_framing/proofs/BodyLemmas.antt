@@ -1,4 +1,4 @@
--- What a reader of bodies keeps, from part to part.
+-- What readers of bodies keep, from part to part.
 use Rattle.std.proofs.Common.{◌≡◌, ◌≢◌, ℕ, zero, suc, ◌+◌, ◌-◌, ◌≤◌, ◌<◌, Bool, true, false, List, [], ◌∷◌, ◌++◌, length, take, drop, min, Ok, Err, rules, refl, sym, ap, subst, ◌∙◌, arith, append_assoc, append-nil, length-append, length-drop, length-take, inl, inr, slice_index}
 use Rattle.std.specs.List.{concat}
 use Rattle.std.proofs.lemmas.List.{drop-append-le, take-append-drop, drop_all, take_all, take-append-le}
@@ -11,10 +11,11 @@ use Rattle.hc_chunks.specs.declared.trailer.TrailerReader.{TrailerReader}
 use Rattle.hc_framing.specs.Names.{of_chunk}
 use Rattle.hc_framing.specs.declared.framing.Framing.{Framing}
 use Rattle.hc_framing.specs.declared.framing.Framing.TheVariants.{Nothing, Sized, Chunked, UntilClose}
-use Rattle.hc_framing.specs.declared.body.Stage.{Stage}
-use Rattle.hc_framing.specs.declared.body.Stage.TheVariants as at
+use Rattle.hc_framing.specs.declared.framing_reader.Stage.{Stage}
+use Rattle.hc_framing.specs.declared.framing_reader.Stage.TheVariants as at
+use Rattle.hc_framing.specs.declared.framing_reader.FramingReader.{FramingReader}
+use Rattle.hc_framing.specs.declared.framing_reader.Part.{Part}
 use Rattle.hc_framing.specs.declared.body.BodyReader.{BodyReader}
-use Rattle.hc_framing.specs.declared.body.Part.TheVariants.{On, End}
 use Rattle.std.proofs.Math.Seq.{take-add}
 use Rattle.hc_chunks.specs.ChunkLines.{BeginsChunkLine, NeverHasChunkLine}
 use Rattle.hc_chunks.specs.ChunkLineReading.{AgreesLine}
@@ -25,7 +26,7 @@ use Rattle.hc_framing.specs.Chunks.{IsChunkThen, AreChunksThen, IsChunkedThen, N
 use Rattle.std.specs.Prelude.{◌⊎◌}
 use Rattle.hc_framing.specs.Messages.{BeginsBody, BeginsChunked, IsWholeBody}
 use Rattle.hc_framing.specs.Bodies.{IsOpenBody, BreaksBody}
-use Rattle.hc_framing.specs.BodyReading.{AtLine, AtData, AtLineFeed, AtTrailer, AgreesAt, AgreesBody, FaultsBody, GivesPart, with_data}
+use Rattle.hc_framing.specs.BodyReading.{AtLine, AtData, AtLineFeed, AtTrailer, AgreesAt, AgreesFraming, FaultsBody, GivesEnd, GivesPart, AgreesBody}
 use Rattle.hc_chunks.proofs.ChunkLineLemmas.{chunk_line-append, chunk_line_within, agrees_none, agrees_can}
 use Rattle.hc_chunks.proofs.ListLemmas.{tail_is, fronts}
 use Rattle.hc_framing.proofs.ChunkLemmas.{chunks-append, chunks_more, BodyBehind, body_behind, begins_with_line, chunk_behind, trailer_behind, open_chunked_has_none, chunked_unique, chunked-append}
@@ -60,20 +61,20 @@ ends_of_chunk chunks last behind-last body rest chunk len b line some others dro
     sym (append_assoc chunk others behind-last) ∙ ap (λ (o : List ℕ). o ++ behind-last) (sym dropped) ∙ sym (behind_line last behind-last (length chunk) len line) ∙ c.is in
     (c.behind, (fronts chunk c.chunk (others ++ behind-last) (13 ∷ 10 ∷ c.behind) (sym c.size_is) joined).1)
 
-pub carriage_return_breaks : (r : BodyReader) (octets piece : List ℕ) → AtData r octets → r.left ≡ 0 → 0 < length piece → slice_index piece 0 ≢ 13
+pub carriage_return_breaks : (r : FramingReader) (octets so_far piece : List ℕ) → AtData r octets so_far → r.left ≡ 0 → 0 < length piece → slice_index piece 0 ≢ 13
     → NeverHasChunked (octets ++ piece)
-carriage_return_breaks r octets [] a none some wrong = absurd (omega (arith, some))
-carriage_return_breaks r octets (b ∷ bs) a none some wrong = λ more body rest is.
+carriage_return_breaks r octets so_far [] a none some wrong = absurd (omega (arith, some))
+carriage_return_breaks r octets so_far (b ∷ bs) a none some wrong = λ more body rest is.
     let on = goes_on_behind a.chunks octets a.last (b ∷ bs) more body rest a.are is in
     let long : a.size ≡ length (drop a.len a.last) = omega (arith, a.left_is, none) in
     let line : BeginsChunkLine a.last (length (drop a.len a.last)) a.len = subst (λ (n : ℕ). BeginsChunkLine a.last n a.len) long a.line in
     let e = ends_of_chunk a.chunks a.last ((b ∷ bs) ++ more) body rest (drop a.len a.last) a.len on line (omega (arith, long, a.some)) [] (sym (append-nil (drop a.len a.last))) in
     wrong (tail_is b 13 (bs ++ more) (10 ∷ e.0) e.1).0
 
-pub line_feed_breaks : (r : BodyReader) (octets piece : List ℕ) → AtLineFeed r octets → 0 < length piece → slice_index piece 0 ≢ 10
+pub line_feed_breaks : (r : FramingReader) (octets so_far piece : List ℕ) → AtLineFeed r octets so_far → 0 < length piece → slice_index piece 0 ≢ 10
     → NeverHasChunked (octets ++ piece)
-line_feed_breaks r octets [] a some wrong = absurd (omega (arith, some))
-line_feed_breaks r octets (b ∷ bs) a some wrong = λ more body rest is.
+line_feed_breaks r octets so_far [] a some wrong = absurd (omega (arith, some))
+line_feed_breaks r octets so_far (b ∷ bs) a some wrong = λ more body rest is.
     let on = goes_on_behind a.chunks octets a.last (b ∷ bs) more body rest a.are is in
     let e = ends_of_chunk a.chunks a.last ((b ∷ bs) ++ more) body rest a.chunk a.len on a.line a.some (13 ∷ []) a.behind in
     wrong (tail_is b 10 (bs ++ more) e.0 (tail_is 13 13 (b ∷ (bs ++ more)) (10 ∷ e.0) e.1).1).0
@@ -86,9 +87,9 @@ trailer_breaks chunks octets last piece len are line never = λ more body rest i
     never more rest (subst (λ (o : List ℕ). IsTrailerThen o rest) (behind_line last (piece ++ more) 0 len line ∙ sym (append_assoc (drop len last) piece more)) t.0)
 
 -- the line of a chunk with which the body is too long
-pub says_too_long : (r : BodyReader) (octets piece : List ℕ) (size used : ℕ) (a : AtLine r octets) → used ≤ length piece
-    → BeginsChunkLine (a.last ++ take used piece) size (length a.last + used) → longest_body - length r.octets < size → IsTooLong (octets ++ piece)
-says_too_long r octets piece size used a within line long = record {
+pub says_too_long : (r : FramingReader) (octets body piece : List ℕ) (size used : ℕ) (a : AtLine r octets body) → used ≤ length piece
+    → BeginsChunkLine (a.last ++ take used piece) size (length a.last + used) → longest_body - r.count < size → IsTooLong (octets ++ piece)
+says_too_long r octets body piece size used a within line long = record {
   chunks = a.chunks;
   last = a.last ++ piece;
   are = chunks-append a.chunks octets piece a.last a.are;
@@ -97,17 +98,19 @@ says_too_long r octets piece size used a within line long = record {
   line =
       subst (λ (o : List ℕ). BeginsChunkLine o size (length a.last + used)) (append_assoc a.last (take used piece) (drop used piece) ∙ ap (λ (o : List ℕ). a.last ++ o) (take-append-drop used piece))
       (chunk_line-append (a.last ++ take used piece) (drop used piece) size (length a.last + used) line);
-  long = omega (arith, long, ap length a.body_is, a.short);
+  long = omega (arith, long, a.count_is, ap length a.body_is, a.short);
 }
 
 -- ---- parts that go on
 
-pub line_goes_on : (r s : BodyReader) (octets piece : List ℕ) (a : AtLine r octets) → s.octets ≡ r.octets → AgreesLine s.line (a.last ++ piece) → AtLine s (octets ++ piece)
-line_goes_on r s octets piece a same line = record {
+pub line_goes_on : (r s : FramingReader) (octets body piece : List ℕ) (a : AtLine r octets body) → s.count ≡ r.count → AgreesLine s.line (a.last ++ piece)
+    → AtLine s (octets ++ piece) body
+line_goes_on r s octets body piece a same line = record {
   chunks = a.chunks;
   last = a.last ++ piece;
   are = chunks-append a.chunks octets piece a.last a.are;
-  body_is = same ∙ a.body_is;
+  body_is = a.body_is;
+  count_is = same ∙ a.count_is;
   short = a.short;
   line = line;
 }
@@ -117,10 +120,10 @@ behind_whole_line : (last piece : List ℕ) (size used : ℕ) → used ≤ lengt
 behind_whole_line last piece size used within =
     drop_all (length last + used) (last ++ take used piece) (omega (arith, length-append last (take used piece), length-take used piece))
 
-pub data_begins : (r s : BodyReader) (octets piece : List ℕ) (size used : ℕ) (a : AtLine r octets) → used ≤ length piece
-    → BeginsChunkLine (a.last ++ take used piece) size (length a.last + used) → size ≢ 0 → size ≤ longest_body - length r.octets
-    → s.octets ≡ r.octets → s.left ≡ size → AtData s (octets ++ take used piece)
-data_begins r s octets piece size used a within line some short same left-is =
+pub data_begins : (r s : FramingReader) (octets body piece : List ℕ) (size used : ℕ) (a : AtLine r octets body) → used ≤ length piece
+    → BeginsChunkLine (a.last ++ take used piece) size (length a.last + used) → size ≢ 0 → size ≤ longest_body - r.count
+    → s.count ≡ r.count + size → s.left ≡ size → AtData s (octets ++ take used piece) body
+data_begins r s octets body piece size used a within line some short count-is left-is =
     let none = behind_whole_line a.last piece size used within in
     record {
       chunks = a.chunks;
@@ -130,35 +133,36 @@ data_begins r s octets piece size used a within line some short same left-is =
       len = length a.last + used;
       line = line;
       some = omega (arith, some);
-      short = omega (arith, short, ap length a.body_is, a.short);
-      body_is = same ∙ a.body_is ∙ sym (append-nil (concat a.chunks)) ∙ ap (λ (o : List ℕ). concat a.chunks ++ o) (sym none);
+      short = omega (arith, short, a.count_is, ap length a.body_is, a.short);
+      body_is = a.body_is ∙ sym (append-nil (concat a.chunks)) ∙ ap (λ (o : List ℕ). concat a.chunks ++ o) (sym none);
+      count_is = omega (arith, count-is, a.count_is, ap length a.body_is);
       left_is = omega (arith, ap length none, left-is);
     }
 
-pub trailer_begins : (r s : BodyReader) (octets piece : List ℕ) (used : ℕ) (a : AtLine r octets) → used ≤ length piece
+pub trailer_begins : (r s : FramingReader) (octets body piece : List ℕ) (used : ℕ) (a : AtLine r octets body) → used ≤ length piece
     → BeginsChunkLine (a.last ++ take used piece) 0 (length a.last + used)
-    → s.octets ≡ r.octets → AgreesTrailer s.trailer [] → AtTrailer s (octets ++ take used piece)
-trailer_begins r s octets piece used a within line same trailer = record {
+    → AgreesTrailer s.trailer [] → AtTrailer s (octets ++ take used piece) body
+trailer_begins r s octets body piece used a within line trailer = record {
   chunks = a.chunks;
   last = a.last ++ take used piece;
   are = chunks-append a.chunks octets (take used piece) a.last a.are;
   len = length a.last + used;
   line = line;
-  body_is = same ∙ a.body_is;
+  body_is = a.body_is;
   short = a.short;
   trailer = subst (λ (o : List ℕ). AgreesTrailer s.trailer o) (sym (behind_whole_line a.last piece 0 used within)) trailer;
 }
 
 -- a line that has come takes some of the piece
-pub line_takes_some : (r : BodyReader) (octets piece : List ℕ) (size used : ℕ) (a : AtLine r octets)
+pub line_takes_some : (r : FramingReader) (octets body piece : List ℕ) (size used : ℕ) (a : AtLine r octets body)
     → BeginsChunkLine (a.last ++ take used piece) size (length a.last + used) → 0 < used
-line_takes_some r octets piece size zero a line =
+line_takes_some r octets body piece size zero a line =
     absurd (agrees_none r.line a.last a.line size (length a.last + 0) (subst (λ (o : List ℕ). BeginsChunkLine o size (length a.last + 0)) (append-nil a.last) line))
-line_takes_some r octets piece size (suc used) a line = omega arith
+line_takes_some r octets body piece size (suc used) a line = omega arith
 
-pub data_goes_on : (r s : BodyReader) (octets piece : List ℕ) → AtData r octets → s.octets ≡ r.octets ++ take (min (length piece) r.left) piece
-    → s.left ≡ r.left - min (length piece) r.left → AtData s (octets ++ take (min (length piece) r.left) piece)
-data_goes_on r s octets piece a octets-are left-is =
+data_goes_on : (r s : FramingReader) (octets body piece : List ℕ) → AtData r octets body → s.count ≡ r.count → s.left ≡ r.left - min (length piece) r.left
+    → AtData s (octets ++ take (min (length piece) r.left) piece) (body ++ take (min (length piece) r.left) piece)
+data_goes_on r s octets body piece a same left-is =
     let t = take (min (length piece) r.left) piece in
     let dropped : drop a.len (a.last ++ t) ≡ drop a.len a.last ++ t = behind_line a.last t a.size a.len a.line in
     record {
@@ -170,14 +174,15 @@ data_goes_on r s octets piece a octets-are left-is =
       line = chunk_line-append a.last t a.size a.len a.line;
       some = a.some;
       short = a.short;
-      body_is = octets-are ∙ ap (λ (o : List ℕ). o ++ t) a.body_is ∙ append_assoc (concat a.chunks) (drop a.len a.last) t ∙ ap (λ (o : List ℕ). concat a.chunks ++ o) (sym dropped);
+      body_is = ap (λ (o : List ℕ). o ++ t) a.body_is ∙ append_assoc (concat a.chunks) (drop a.len a.last) t ∙ ap (λ (o : List ℕ). concat a.chunks ++ o) (sym dropped);
+      count_is = same ∙ a.count_is;
       left_is = omega (arith, ap length dropped, length-append (drop a.len a.last) t, length-take (min (length piece) r.left) piece, a.left_is, left-is);
     }
 
-pub line_feed_awaited : (r s : BodyReader) (octets piece : List ℕ) → AtData r octets → r.left ≡ 0 → 0 < length piece → slice_index piece 0 ≡ 13
-    → s.octets ≡ r.octets → AtLineFeed s (octets ++ take 1 piece)
-line_feed_awaited r s octets [] a none some is same = absurd (omega (arith, some))
-line_feed_awaited r s octets (b ∷ bs) a none some is same =
+pub line_feed_awaited : (r s : FramingReader) (octets body piece : List ℕ) → AtData r octets body → r.left ≡ 0 → 0 < length piece → slice_index piece 0 ≡ 13
+    → s.count ≡ r.count → AtLineFeed s (octets ++ take 1 piece) body
+line_feed_awaited r s octets body [] a none some is same = absurd (omega (arith, some))
+line_feed_awaited r s octets body (b ∷ bs) a none some is same =
     let chunk = drop a.len a.last in
     let long : a.size ≡ length chunk = omega (arith, a.left_is, none) in
     let line : BeginsChunkLine a.last (length chunk) a.len = subst (λ (n : ℕ). BeginsChunkLine a.last n a.len) long a.line in
@@ -190,14 +195,15 @@ line_feed_awaited r s octets (b ∷ bs) a none some is same =
       line = chunk_line-append a.last (b ∷ []) (length chunk) a.len line;
       some = omega (arith, long, a.some);
       short = omega (arith, long, a.short);
-      body_is = same ∙ a.body_is;
+      body_is = a.body_is;
+      count_is = omega (arith, same, a.count_is, long, ap length a.body_is, length-append (concat a.chunks) chunk);
       behind = behind_line a.last (b ∷ []) (length chunk) a.len line ∙ ap (λ (n : ℕ). chunk ++ n ∷ []) is;
     }
 
-pub next_line : (r s : BodyReader) (octets piece : List ℕ) → AtLineFeed r octets → 0 < length piece → slice_index piece 0 ≡ 10
-    → s.octets ≡ r.octets → AgreesLine s.line [] → AtLine s (octets ++ take 1 piece)
-next_line r s octets [] a some is same line = absurd (omega (arith, some))
-next_line r s octets (b ∷ bs) a some is same line =
+pub next_line : (r s : FramingReader) (octets body piece : List ℕ) → AtLineFeed r octets body → 0 < length piece → slice_index piece 0 ≡ 10
+    → s.count ≡ r.count → AgreesLine s.line [] → AtLine s (octets ++ take 1 piece) body
+next_line r s octets body [] a some is same line = absurd (omega (arith, some))
+next_line r s octets body (b ∷ bs) a some is same line =
     let dropped : drop a.len (a.last ++ b ∷ []) ≡ a.chunk ++ (13 ∷ 10 ∷ []) =
     behind_line a.last (b ∷ []) (length a.chunk) a.len a.line ∙ ap (λ (o : List ℕ). o ++ b ∷ []) a.behind
     ∙ append_assoc a.chunk (13 ∷ []) (b ∷ []) ∙ ap (λ (n : ℕ). a.chunk ++ (13 ∷ n ∷ [])) is in
@@ -213,69 +219,85 @@ next_line r s octets (b ∷ bs) a some is same line =
       chunks = a.chunks ++ a.chunk ∷ [];
       last = [];
       are = chunks_more a.chunks a.chunk (octets ++ b ∷ []) (a.last ++ b ∷ []) [] (chunks-append a.chunks octets (b ∷ []) a.last a.are) chunk;
-      body_is = same ∙ a.body_is ∙ sym joined;
+      body_is = a.body_is ∙ sym joined;
+      count_is = same ∙ a.count_is;
       short = omega (arith, ap length joined, length-append (concat a.chunks) a.chunk, a.short);
       line = line;
     }
 
-pub trailer_goes_on : (r s : BodyReader) (octets piece : List ℕ) (a : AtTrailer r octets) → s.octets ≡ r.octets
-    → AgreesTrailer s.trailer (drop a.len a.last ++ piece) → AtTrailer s (octets ++ piece)
-trailer_goes_on r s octets piece a same trailer = record {
+pub trailer_goes_on : (r s : FramingReader) (octets body piece : List ℕ) (a : AtTrailer r octets body)
+    → AgreesTrailer s.trailer (drop a.len a.last ++ piece) → AtTrailer s (octets ++ piece) body
+trailer_goes_on r s octets body piece a trailer = record {
   chunks = a.chunks;
   last = a.last ++ piece;
   are = chunks-append a.chunks octets piece a.last a.are;
   len = a.len;
   line = chunk_line-append a.last piece 0 a.len a.line;
-  body_is = same ∙ a.body_is;
+  body_is = a.body_is;
   short = a.short;
   trailer = subst (λ (o : List ℕ). AgreesTrailer s.trailer o) (sym (behind_line a.last piece 0 a.len a.line)) trailer;
 }
 
-pub trailer_ends : (r s : BodyReader) (octets piece : List ℕ) (used : ℕ) (a : AtTrailer r octets) → used ≤ length piece → s.octets ≡ r.octets
-    → IsTrailerThen (drop a.len a.last ++ take used piece) [] → BeginsChunked (octets ++ take used piece) s.octets (length octets + used)
-trailer_ends r s octets piece used a within same trailer =
+pub trailer_ends : (r : FramingReader) (octets body piece : List ℕ) (used : ℕ) (a : AtTrailer r octets body) → used ≤ length piece
+    → IsTrailerThen (drop a.len a.last ++ take used piece) [] → BeginsChunked (octets ++ take used piece) body (length octets + used)
+trailer_ends r octets body piece used a within trailer =
     let t = take used piece in
     let long : length (octets ++ t) ≡ length octets + used = omega (arith, length-append octets t, length-take used piece) in
-    let done : IsChunkedThen (octets ++ t) s.octets [] = record {
+    let done : IsChunkedThen (octets ++ t) body [] = record {
       chunks = a.chunks;
       last = a.last ++ t;
       are = chunks-append a.chunks octets t a.last a.are;
       len = a.len;
       line = chunk_line-append a.last t 0 a.len a.line;
       trailer = subst (λ (o : List ℕ). IsTrailerThen o []) (sym (behind_line a.last t 0 a.len a.line)) trailer;
-      body_is = same ∙ a.body_is;
+      body_is = a.body_is;
     } in
     record {
       within = omega (arith, long);
-      is = subst (λ (o : List ℕ). IsChunkedThen (octets ++ t) s.octets o) (sym (drop_all (length octets + used) (octets ++ t) (omega (arith, long)))) done;
-      short = omega (arith, ap length same, ap length a.body_is, a.short);
+      is = subst (λ (o : List ℕ). IsChunkedThen (octets ++ t) body o) (sym (drop_all (length octets + used) (octets ++ t) (omega (arith, long)))) done;
+      short = omega (arith, ap length a.body_is, a.short);
     }
 
 -- ---- the stage
 
 -- what the reader agrees with, by its stage
-pub at_stage : (framing : Framing) (r : BodyReader) (octets : List ℕ) (stage : Stage) → r.stage ≡ stage → AgreesBody framing r octets → AgreesAt stage framing r octets
-at_stage framing r octets stage is agrees = subst (λ (s : Stage). AgreesAt s framing r octets) is agrees
+pub at_stage : (framing : Framing) (r : FramingReader) (octets body : List ℕ) (stage : Stage) → r.stage ≡ stage → AgreesFraming framing r octets body
+    → AgreesAt stage framing r octets body
+at_stage framing r octets body stage is agrees = subst (λ (s : Stage). AgreesAt s framing r octets body) is agrees
+
+-- and the other way round
+pub in_stage : (framing : Framing) (r : FramingReader) (octets body : List ℕ) (stage : Stage) → r.stage ≡ stage → AgreesAt stage framing r octets body
+    → AgreesFraming framing r octets body
+in_stage framing r octets body stage is agrees = subst (λ (s : Stage). AgreesAt s framing r octets body) (sym is) agrees
 
 -- data of a chunk, as much of it as was taken
-pub data_taken : (r s : BodyReader) (octets piece : List ℕ) (taken : ℕ) → AtData r octets → taken ≡ min (length piece) r.left → s.octets ≡ (with_data r piece).octets
-    → s.left ≡ (with_data r piece).left → AtData s (octets ++ take taken piece)
-data_taken r s octets piece taken a taken-is octets-are left-is =
-    subst (λ (n : ℕ). AtData s (octets ++ take n piece)) (sym taken-is) (data_goes_on r s octets piece a octets-are left-is)
+pub data_taken : (r s : FramingReader) (octets body piece : List ℕ) (taken : ℕ) → AtData r octets body → taken ≡ min (length piece) r.left → s.count ≡ r.count
+    → s.left ≡ r.left - taken → AtData s (octets ++ take taken piece) (body ++ take taken piece)
+data_taken r s octets body piece taken a taken-is same left-is =
+    subst (λ (n : ℕ). AtData s (octets ++ take n piece) (body ++ take n piece)) (sym taken-is)
+    (data_goes_on r s octets body piece a same (left-is ∙ ap (λ (n : ℕ). r.left - n) taken-is))
 
 -- a piece that has octets is taken in part
 pub takes_some : (taken long left : ℕ) → taken ≡ min long left → 0 < long → 0 < left → (0 < taken) × (taken ≤ long)
 takes_some taken long left is some more = (omega (arith, is, some, more), omega (arith, is))
+
+-- octets of the framing leave the body as it is
+pub framing_taken : (part : Part) (framing : Framing) (r : FramingReader) (octets body piece : List ℕ) (used : ℕ)
+    → part ≡ record { used = used; body = 0; ends = false } → 0 < used → used ≤ length piece
+    → AgreesFraming framing r (octets ++ take used piece) body → GivesPart (Ok part) framing r octets body piece
+framing_taken part framing r octets body piece used part-is some within agrees =
+    subst (λ (p : Part). GivesPart (Ok p) framing r octets body piece) (sym part-is)
+    (within, omega arith, (some, subst (λ (o : List ℕ). AgreesFraming framing r (octets ++ take used piece) o) (sym (append-nil body)) agrees))
 
 -- all of a piece
 pub whole_piece : (P : List ℕ → Type 0) (octets piece : List ℕ) → P (octets ++ piece) → P (octets ++ take (length piece) piece)
 whole_piece P octets piece h = subst (λ (o : List ℕ). P (octets ++ o)) (sym (take_all (length piece) piece (omega arith))) h
 
 -- a fault in the trailer section
-pub trailer_faults : (r : BodyReader) (s : TrailerReader) (octets piece : List ℕ) (framing : Framing) (fault : ChunkFault) → framing ≡ Chunked → (a : AtTrailer r octets)
+pub trailer_faults : (r : FramingReader) (s : TrailerReader) (octets body piece : List ℕ) (framing : Framing) (fault : ChunkFault) → framing ≡ Chunked → (a : AtTrailer r octets body)
     → GivesTrailer (Err fault) s (drop a.len a.last) piece → FaultsBody (of_chunk fault) framing (octets ++ piece)
-trailer_faults r s octets piece framing chunks.Memory is a gives = tt
-trailer_faults r s octets piece framing chunks.Syntax is a gives = (is, trailer_breaks a.chunks octets a.last piece a.len a.are a.line gives)
+trailer_faults r s octets body piece framing chunks.Memory is a gives = tt
+trailer_faults r s octets body piece framing chunks.Syntax is a gives = (is, trailer_breaks a.chunks octets a.last piece a.len a.are a.line gives)
 
 -- ---- the parts of a piece
 
@@ -284,20 +306,27 @@ joined octets piece rest used taken rest-is =
     ap (λ (o : List ℕ). (octets ++ take used piece) ++ take taken o) rest-is ∙ append_assoc octets (take used piece) (take taken (drop used piece))
     ∙ ap (λ (o : List ℕ). octets ++ o) (sym (take-add used taken piece))
 
-pub on_part : (framing : Framing) (r : BodyReader) (octets piece rest : List ℕ) (used taken : ℕ) → rest ≡ drop used piece → used ≤ length piece
-    → GivesPart (Ok (On taken)) framing r (octets ++ take used piece) rest
-    → (0 < taken) × (used + taken ≤ length piece) × AgreesBody framing r (octets ++ take (used + taken) piece)
-on_part framing r octets piece rest used taken rest-is within gives =
-    (gives.0, omega (arith, gives.1, ap length rest-is, length-drop used piece, within), subst (AgreesBody framing r) (joined octets piece rest used taken rest-is) gives.2)
+module _ (framing : Framing) (r : FramingReader) (octets body piece rest : List ℕ) (used : ℕ) (part : Part) (rest-is : rest ≡ drop used piece)
+    (within : used ≤ length piece) (gives : GivesPart (Ok part) framing r (octets ++ take used piece) body rest) where
+  -- a part lies in the piece
+  pub part_within : (part.body ≤ length rest) × (used + part.used ≤ length piece)
+  part_within = (omega (arith, gives.0, gives.1), omega (arith, gives.0, ap length rest-is, length-drop used piece, within))
 
-pub end_part : (framing : Framing) (r : BodyReader) (octets piece rest whole : List ℕ) (used taken : ℕ) → rest ≡ drop used piece → used ≤ length piece → whole ≡ r.octets
-    → GivesPart (Ok (End taken)) framing r (octets ++ take used piece) rest
-    → (used + taken ≤ length piece) × BeginsBody framing (octets ++ take (used + taken) piece) whole (length octets + (used + taken))
-end_part framing r octets piece rest whole used taken rest-is within whole-is gives =
-    let long : length (octets ++ take used piece) + taken ≡ length octets + (used + taken) = omega (arith, length-append octets (take used piece), length-take used piece, within) in (
-      omega (arith, gives.0, ap length rest-is, length-drop used piece, within),
-      subst (λ (p : List ℕ × List ℕ × ℕ). BeginsBody framing p.0 p.1 p.2) (λ i. (joined octets piece rest used taken rest-is i, sym whole-is i, long i)) gives.1,
-    )
+  -- behind a part the body goes on
+  pub part_on : part.ends ≡ false
+      → (0 < part.used) × AgreesFraming framing r (octets ++ take (used + part.used) piece) (body ++ take part.body rest)
+  part_on ends =
+      let on = subst (λ (e : Bool). GivesEnd e part framing r (octets ++ take used piece) body rest) ends gives.2 in
+      (on.0, subst (λ (o : List ℕ). AgreesFraming framing r o (body ++ take part.body rest)) (joined octets piece rest used part.used rest-is) on.1)
+
+  -- or is whole
+  pub part_end : part.ends ≡ true
+      → BeginsBody framing (octets ++ take (used + part.used) piece) (body ++ take part.body rest) (length octets + (used + part.used))
+  part_end ends =
+      let end = subst (λ (e : Bool). GivesEnd e part framing r (octets ++ take used piece) body rest) ends gives.2 in
+      let long : length (octets ++ take used piece) + part.used ≡ length octets + (used + part.used) =
+      omega (arith, length-append octets (take used piece), length-take used piece, within) in
+      subst (λ (p : List ℕ × ℕ). BeginsBody framing p.0 (body ++ take part.body rest) p.1) (λ i. (joined octets piece rest used part.used rest-is i, long i)) end
 
 -- ---- what an agreeing reader says of the octets
 
@@ -318,13 +347,13 @@ trailer_open r octets a = record {
     begun true = inr refl
     begun false = inl refl
 
-pub body_is_open : (framing : Framing) (r : BodyReader) (octets : List ℕ) → AgreesBody framing r octets → IsOpenBody framing octets
-body_is_open framing r octets agrees = go r.stage agrees
+pub framing_is_open : (framing : Framing) (r : FramingReader) (octets body : List ℕ) → AgreesFraming framing r octets body → IsOpenBody framing octets
+framing_is_open framing r octets body agrees = go r.stage agrees
   where
     chunked : (f : Framing) → f ≡ Chunked → IsOpenChunked octets → IsOpenBody f octets
     chunked f is o = subst (λ (g : Framing). IsOpenBody g octets) (sym is) o
 
-    go : (stage : Stage) → AgreesAt stage framing r octets → IsOpenBody framing octets
+    go : (stage : Stage) → AgreesAt stage framing r octets body → IsOpenBody framing octets
     go at.Sized a = subst (λ (g : Framing). IsOpenBody g octets) (sym a.0) (omega (arith, a.1))
     go at.Line a = chunked framing a.0 (record {
       chunks = a.1.chunks;
@@ -362,6 +391,9 @@ body_is_open framing r octets agrees = go r.stage agrees
       part = OpenTrailer a.1.len a.1.line (trailer_open r.trailer (drop a.1.len a.1.last) a.1.trailer);
     })
     go at.UntilClose a = subst (λ (g : Framing). IsOpenBody g octets) (sym a.0) a.1
+
+pub body_is_open : (framing : Framing) (r : BodyReader) (octets : List ℕ) → AgreesBody framing r octets → IsOpenBody framing octets
+body_is_open framing r octets agrees = framing_is_open framing r.framing octets r.octets agrees
 
 -- ---- bodies in the octets
 
@@ -437,11 +469,11 @@ whole_body Chunked octets body len is b = subst (BeginsBody Chunked octets body)
 whole_body UntilClose octets body len is b = absurd b
 
 -- what has come of a body, where no more comes
-pub ends_whole : (frame : Framing) (r : BodyReader) (octets : List ℕ) → AgreesBody frame r octets → frame ≡ UntilClose → IsWholeBody frame octets r.octets
-ends_whole frame r octets agrees is =
-    subst (λ (f : Framing). IsWholeBody f octets r.octets) (sym is) (go r.stage (subst (λ (f : Framing). AgreesBody f r octets) is agrees))
+pub framing_ends_whole : (frame : Framing) (r : FramingReader) (octets body : List ℕ) → AgreesFraming frame r octets body → frame ≡ UntilClose → IsWholeBody frame octets body
+framing_ends_whole frame r octets body agrees is =
+    subst (λ (f : Framing). IsWholeBody f octets body) (sym is) (go r.stage (subst (λ (f : Framing). AgreesFraming f r octets body) is agrees))
   where
-    go : (stage : Stage) → AgreesAt stage UntilClose r octets → (r.octets ≡ octets) × (length octets ≤ longest_body)
+    go : (stage : Stage) → AgreesAt stage UntilClose r octets body → (body ≡ octets) × (length octets ≤ longest_body)
     go at.Sized a = absurd (search (rules, a.0))
     go at.Line a = absurd (search (rules, a.0))
     go at.Data a = absurd (search (rules, a.0))
@@ -449,6 +481,9 @@ ends_whole frame r octets agrees is =
     go at.LineFeed a = absurd (search (rules, a.0))
     go at.Trailer a = absurd (search (rules, a.0))
     go at.UntilClose a = (a.2, a.1)
+
+pub ends_whole : (frame : Framing) (r : BodyReader) (octets : List ℕ) → AgreesBody frame r octets → frame ≡ UntilClose → IsWholeBody frame octets r.octets
+ends_whole frame r octets agrees is = framing_ends_whole frame r.framing octets r.octets agrees is
 
 pub one_whole_body : (framing : Framing) (octets a b : List ℕ) → IsWholeBody framing octets a → IsWholeBody framing octets b → a ≡ b
 one_whole_body Nothing octets a b p q = p.0 ∙ sym q.0

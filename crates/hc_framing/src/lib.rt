@@ -4,6 +4,7 @@
 mod body;
 mod fault;
 mod framing;
+mod framing_reader;
 mod head;
 mod kind;
 mod message;
