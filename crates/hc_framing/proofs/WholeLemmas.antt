@@ -17,7 +17,7 @@ use Rattle.hc_framing.specs.Bodies.{has_octets}
 use Rattle.hc_framing.specs.Framing.{IsFramingFault}
 use Rattle.hc_framing.specs.BodyReading.{GivesBody}
 use Rattle.hc_framing.specs.Faults.{ShowsFault, StandsInWhole, GivesMessage}
-use Rattle.hc_framing.specs.WholeParts.{EndsBefore, GivesFramed, GivesBehind}
+use Rattle.hc_framing.specs.WholeParts.{EndsBefore, noted, GivesWholeBody, GivesFramed, GivesBehind}
 use Rattle.hc_framing.proofs.BodyLemmas.{body-append}
 use Rattle.hc_framing.proofs.ReaderLemmas.{body_faults}
 
@@ -105,6 +105,12 @@ module _ {H : Type 0} (form : Form H) (laws : FormLaws form) where
       body_faults form laws kind octets room head len frame faults.BodyTooLong begins framed gives
   framed_in kind octets room head len frame (Err faults.Memory) begins framed gives = tt
   framed_in kind octets room head len frame (Err faults.Failed) begins framed gives = absurd gives
+
+  -- a bare head, and a body that was noted behind it
+  pub framed_noted : (framing : Framing) (head bare : H) (r : Result (Unit {0}) FrameFault) (body octets : List ℕ) → bare ≡ form.without_framing head
+      → GivesWholeBody (noted r body) framing octets → GivesFramed form framing head (noted r (record { head = bare; body = body })) octets
+  framed_noted framing head bare (Ok done) body octets bare-is gives = (gives, bare-is)
+  framed_noted framing head bare (Err fault) body octets bare-is gives = gives
 
   pub behind_head : (kind : Kind) (octets : List ℕ) (room : Room) (head : H) (len : ℕ) (result : Result (Message H) FrameFault)
       → IsWholeHead form.begins form.field_count octets room head len

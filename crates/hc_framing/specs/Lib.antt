@@ -10,6 +10,7 @@ pub mod BodyReading
 pub mod Faults
 pub mod Reader
 pub mod ReaderParts
+pub mod Pieces
 pub mod WholeParts
 pub mod Places
 pub mod Written

@@ -2,12 +2,14 @@
 #![tactic(auto)]
 
 mod body;
+mod body_view;
 mod fault;
 mod framing;
 mod framing_reader;
 mod head;
 mod kind;
 mod message;
+mod noting;
 mod places;
 mod progress;
 mod reader;
@@ -15,6 +17,7 @@ mod text;
 mod whole;
 mod writing;
 
+pub use body_view::{BodyView, Piece};
 pub use fault::FrameFault;
 pub use framing::Framing;
 pub use head::MessageHead;

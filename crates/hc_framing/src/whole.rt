@@ -11,7 +11,7 @@ ghost use Rattle.hc_framing.specs.Faults.{FindsMessage, GivesRequest, GivesRespo
 use crate::fault::FrameFault;
 use crate::message::{Message, copy_request, copy_response};
 use crate::places::Places;
-use hc_head::{RequestHead, ResponseHead};
+use hc_head::{RequestHead, ResponseHead, Room};
 use std::alloc::Global;
 
 /// The request that the octets are, all of them, in the room of a recorded head. Octets after it are

@@ -1,8 +1,5 @@
-use Rattle.hc_framing.specs.declared.kind.Kind.TheVariants.{Request}
-use Rattle.hc_framing.specs.Messages.{request_form}
-use Rattle.hc_framing.specs.FramingLaws.{request_laws}
-use Rattle.hc_framing.proofs.ReaderLemmas.{finds_whole}
+use Rattle.std.proofs.Common.{◌∙◌}
 use Rattle.hc_framing.proofs.whole.whole_request.Goals as goal
 
 pub returns-clause-found : goal.returns-clause-found
-returns-clause-found c = λ message. finds_whole request_form request_laws Request c.args.bytes.now _ c.whole.result message c.whole.ensures
+returns-clause-found c = λ message whole. c.in_ok-request-in-Ok.ensures ∙ c.request.ensures ∙ c.in-Ok.ensures.found message whole

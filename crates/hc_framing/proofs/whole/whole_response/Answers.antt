@@ -1,8 +1,5 @@
-use Rattle.hc_framing.specs.declared.kind.Kind.TheVariants.{Response}
-use Rattle.hc_framing.specs.Messages.{response_form}
-use Rattle.hc_framing.specs.FramingLaws.{response_laws}
-use Rattle.hc_framing.proofs.ReaderLemmas.{finds_whole}
+use Rattle.std.proofs.Common.{◌∙◌}
 use Rattle.hc_framing.proofs.whole.whole_response.Goals as goal
 
 pub returns-clause-found : goal.returns-clause-found
-returns-clause-found c = λ message. finds_whole response_form response_laws (Response c.args.to_head) c.args.bytes.now _ c.whole.result message c.whole.ensures
+returns-clause-found c = λ message whole. c.in_ok-response-in-Ok.ensures ∙ c.response.ensures ∙ c.in-Ok.ensures.found message whole
