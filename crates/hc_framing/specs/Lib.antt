@@ -10,5 +10,6 @@ pub mod BodyReading
 pub mod Faults
 pub mod Reader
 pub mod ReaderParts
+pub mod Pieces
 pub mod WholeParts
 pub mod Written

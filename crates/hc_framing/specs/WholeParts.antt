@@ -24,6 +24,11 @@ GivesWholeBody (Err Truncated) framing octets = IsOpenBody framing octets × (fr
 GivesWholeBody (Err BadLength) framing octets = EndsBefore framing octets
 GivesWholeBody (Err fault) framing octets = FaultsBody fault framing octets
 
+-- the body in place of the unit, where it was noted
+abbrev pub noted : Result (Unit {0}) FrameFault → List ℕ → Result (List ℕ) FrameFault
+noted (Ok done) body = Ok body
+noted (Err fault) body = Err fault
+
 module _ {H : Type 0} (form : Form H) where
   -- the same of a message with that head, which frames its body so, and the octets behind it
   abbrev pub GivesFramed : Framing → H → Result (Message H) FrameFault → List ℕ → Type 0

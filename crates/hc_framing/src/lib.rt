@@ -2,18 +2,21 @@
 #![tactic(auto)]
 
 mod body;
+mod body_view;
 mod fault;
 mod framing;
 mod framing_reader;
 mod head;
 mod kind;
 mod message;
+mod noting;
 mod progress;
 mod reader;
 mod text;
 mod whole;
 mod writing;
 
+pub use body_view::{BodyView, Piece};
 pub use fault::FrameFault;
 pub use framing::Framing;
 pub use head::MessageHead;

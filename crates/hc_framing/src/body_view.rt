@@ -1,0 +1,122 @@
+//! Bodies that are lent in pieces.
+
+ghost use Rattle.std.specs.Prelude.{◌≡◌, ◌++◌, IfOk, OnOk, Decides};
+ghost use Rattle.std.specs.List.{flat_map};
+ghost use Rattle.hc_framing.specs.Pieces.{piece_at};
+
+use hc_fields::Octets;
+use std::alloc::{AllocError, Global};
+use std::marker::Model;
+
+/// Where a piece of a body stands in octets.
+#[derive(Clone, Copy)]
+pub struct Piece {
+    /// Where it begins.
+    pub start: u32,
+    /// How many octets it has.
+    pub len: u32,
+}
+
+/// A body that is lent, which contracts see as its octets: those of a slice, and then those of its pieces of
+/// others.
+#[derive(Drop)]
+pub struct BodyView<'a> {
+    one: &'a [u8],
+    octets: &'a [u8],
+    pieces: &'a [Piece],
+}
+
+impl<'a> Model for BodyView<'a> {
+    ghost use Rattle.std.specs.Prelude.{List, ℕ, ◌++◌};
+    ghost use Rattle.std.specs.List.{flat_map};
+    ghost use Rattle.hc_framing.specs.Pieces.{piece_at};
+
+    ghost Value = { List ℕ };
+
+    ghost view = { λ b. b.one.now ++ flat_map (piece_at b.octets.now) b.pieces.now };
+}
+
+/// The octets of a piece.
+fn octets_at(octets: &[u8], at: Piece) -> &[u8]
+    ensures { result.now ≡ piece_at octets.now at }
+{
+    hc_fields::piece(octets, at.start as usize, at.len as usize)
+}
+
+/// Whether the octets are those of the pieces, one behind another.
+fn equal_pieces(octets: &[u8], pieces: &[Piece], other: &[u8]) -> bool
+    ensures { Decides result (flat_map (piece_at octets.now) pieces.now ≡ other.now) }
+{
+    let mut rest = other;
+    for at in pieces {
+        let Some(behind) = rest.strip_prefix(octets_at(octets, *at)) else {
+            return false;
+        };
+        rest = behind;
+    }
+    rest.is_empty()
+}
+
+/// Appends the octets of the pieces.
+fn push_pieces(copy: &mut Octets, octets: &[u8], pieces: &[Piece]) -> Result<(), AllocError>
+    ensures { OnOk result (copy.new ≡ copy.old ++ flat_map (piece_at octets.now) pieces.now) }
+{
+    for at in pieces {
+        copy.extend_from_slice(octets_at(octets, *at))?;
+    }
+    Ok(())
+}
+
+impl<'a> BodyView<'a> {
+    /// A body that lies in one slice.
+    pub fn of(one: &'a [u8]) -> Self
+        ensures { result ≡ one.now }
+    {
+        BodyView {
+            one,
+            octets: &[],
+            pieces: &[],
+        }
+    }
+
+    /// A body that lies in pieces of octets.
+    pub fn at(octets: &'a [u8], pieces: &'a [Piece]) -> Self
+        ensures { result ≡ flat_map (piece_at octets.now) pieces.now }
+    {
+        BodyView {
+            one: &[],
+            octets,
+            pieces,
+        }
+    }
+
+    /// The same body, lent once more.
+    pub fn again(&self) -> BodyView<'a>
+        ensures { result ≡ self.now }
+    {
+        BodyView {
+            one: self.one,
+            octets: self.octets,
+            pieces: self.pieces,
+        }
+    }
+
+    /// Whether the body has these octets.
+    pub fn equals(&self, other: &[u8]) -> bool
+        ensures { Decides result (self.now ≡ other.now) }
+    {
+        match other.strip_prefix(self.one) {
+            Some(behind) => equal_pieces(self.octets, self.pieces, behind),
+            None => false,
+        }
+    }
+
+    /// The octets of the body in memory of their own.
+    pub fn copy(&self, alloc: Global) -> Result<Octets, AllocError>
+        ensures { IfOk result (λ o. o ≡ self.now) }
+    {
+        let mut copy = Octets::from_slice(alloc, self.one)?;
+        push_pieces(&mut copy, self.octets, self.pieces)?;
+        Ok(copy)
+    }
+}
