@@ -9,7 +9,6 @@ use Rattle.hc_transcript.specs.declared.fault.RecordFault.{RecordFault}
 use Rattle.hc_transcript.specs.declared.fault.RecordFault.TheVariants as fault
 use Rattle.hc_transcript.specs.declared.format.Format.{Format}
 use Rattle.hc_transcript.specs.declared.format.Format.TheVariants as form
-use Rattle.hc_transcript.specs.declared.item.OwnedItem.{OwnedItem}
 use Rattle.hc_transcript.specs.declared.line.Line.{Line}
 use Rattle.hc_transcript.specs.declared.line.ToldCause.TheVariants.{Untold}
 use Rattle.hc_transcript.specs.declared.open_numbers.Standing.{Standing}
@@ -17,12 +16,12 @@ use Rattle.hc_transcript.specs.declared.record.Passed.{Passed}
 use Rattle.hc_transcript.specs.declared.record.Passed.TheVariants.{ClientRequest, OriginRequest, OriginResponse, OriginFailure, ClientReply}
 use Rattle.hc_transcript.specs.declared.record.Record.{Record}
 use Rattle.hc_transcript.specs.Records.{opening, line_text, passed_kind, passed_octets, passed_cause, CanTell, line_of, message_of, record_text, records_text}
-use Rattle.hc_transcript.specs.Items.{Item, Exchange, Forward, exchange_is_head, forward_is_head, item_of}
+use Rattle.hc_transcript.specs.Items.{Item, Exchange, Forward, exchange_is_head, forward_is_head}
 use Rattle.hc_transcript.specs.Items as items
 use Rattle.hc_transcript.specs.History.{next_position, exchange_of, exchange_after, forward_of, forward_after, last_moment, last_exchange, last_forward}
 use Rattle.hc_transcript.specs.Checks.{line_fault, first_fault, cause_is_open, has_right_length}
 use Rattle.hc_transcript.specs.Transcript.{is_to_head, ReadsResponse, IsItemOf, Follows, AreReadAs, Splits, IsTranscript}
-use Rattle.hc_transcript.specs.Reading.{Refuses, IsItemWith}
+use Rattle.hc_transcript.specs.Reading.{Refuses}
 use Rattle.hc_transcript.specs.Standing.{StandsAs, standing_fault}
 use Rattle.hc_transcript.specs.Malformed.{IsFramed, IsUnfinished, BreaksLine, BreaksRecord, IsNoMessage, HasNoMessage}
 use Rattle.hc_transcript.specs.Converting.{passed_without_cause, without_cause, item_without_cause, converted, IsMalformed, FailsBy, line_without_cause, malformed_at, ReadsOne}
@@ -103,18 +102,18 @@ fails_by_item format octets records h rest s position f l message len to_head sp
 -- ---- one record
 
 pub reads_one : (format : Format) (octets : List ℕ) (records : List Record) (h : List Item) (rest : List ℕ) (s new : Standing) (l : Line) (message : List ℕ) (len : ℕ) (to_head : Bool)
-    (item : OwnedItem) → Splits format octets records h rest → StandsAs s h → IsFramed format (standing_fault s) rest l message len → to_head ≡ is_to_head l.kind l.number h
-    → IsItemWith l to_head message item → StandsAs new (item_of item ∷ h) → ReadsOne format octets records h (drop len rest) l message new
+    (item : Item) → Splits format octets records h rest → StandsAs s h → IsFramed format (standing_fault s) rest l message len → to_head ≡ is_to_head l.kind l.number h
+    → IsItemOf l.kind l.cause l.number l.moment to_head message item → StandsAs new (item ∷ h) → ReadsOne format octets records h (drop len rest) l message new
 reads_one format octets records h rest s new l message len to_head item splits stands framed head-is read stands-new =
     let one = record_as l message in
     let message-is : message_of one ≡ message = octets_as l.kind l.cause message (ap (has_right_length l.kind) framed.size_is ∙ right_length s l framed.keeps) in
     let line-is : line_of format one ≡ l = line_as format l message framed.is.end framed.is.ends framed.size_is message-is in
-    let reads : IsItemOf l.kind l.cause l.number l.moment (is_to_head l.kind l.number h) message (item_of item) =
-    subst (λ (b : Bool). IsItemOf l.kind l.cause l.number l.moment b message (item_of item)) head-is read.reads in
+    let reads : IsItemOf l.kind l.cause l.number l.moment (is_to_head l.kind l.number h) message item =
+    subst (λ (b : Bool). IsItemOf l.kind l.cause l.number l.moment b message item) head-is read in
     record {
       one = one;
-      item = item_of item;
-      splits = splits_next format octets records h rest l message len one (item_of item) splits (framed_after format s h rest l message len stands framed) reads
+      item = item;
+      splits = splits_next format octets records h rest l message len one item splits (framed_after format s h rest l message len stands framed) reads
           (can_tell format l message framed.is.end framed.is.ends) line-is message-is;
       stands = stands-new;
       line_is = line-is;

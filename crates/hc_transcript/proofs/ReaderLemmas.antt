@@ -1,46 +1,54 @@
 -- What a reader of records keeps, from call to call.
-use Rattle.std.proofs.Common.{◌≡◌, ◌≢◌, ℕ, ◌+◌, Bool, true, false, List, [], ◌∷◌, ◌++◌, length, drop, Option, Some, None, refl, sym, ap, subst, ◌∙◌, arith, inl, inr, append_assoc, length-append, length-drop, ◌<◌, ◌≤◌}
-use Rattle.std.proofs.Math.Seq.{drop-append_seam}
-use Rattle.std.proofs.lemmas.List.{append-nil}
+use Rattle.std.proofs.Common.{◌≡◌, ◌≢◌, ℕ, ◌+◌, Bool, true, false, ◌-◌, List, [], ◌∷◌, ◌++◌, length, take, drop, Option, Some, None, refl, sym, ap, subst, ◌∙◌, arith, inl, inr, append_assoc, length-append, length-drop, ◌<◌, ◌≤◌}
+use Rattle.std.proofs.Math.Seq.{drop-append_seam, take-append_seam}
+use Rattle.std.proofs.lemmas.List.{append-nil, drop-append-le, take-append-le}
 use Rattle.std.proofs.lemmas.Slice.Eq.{bytes_eq-Decides}
 use Rattle.std.specs.Prelude.{◌||◌, bytes_eq, ◌==◌}
 use Rattle.std.proofs.lemmas.Bool.{eqb-true, eqb-false}
+use Rattle.hc_fields.specs.Views.{piece}
 use Rattle.hc_transcript.specs.declared.fault.RecordFault.{RecordFault}
 use Rattle.hc_transcript.specs.declared.fault.RecordFault.TheVariants as fault
 use Rattle.hc_transcript.specs.declared.format.Format.{Format}
 use Rattle.hc_transcript.specs.declared.format.Format.TheVariants as form
-use Rattle.hc_transcript.specs.declared.item.OwnedItem.{OwnedItem}
 use Rattle.hc_transcript.specs.declared.line.Line.{Line}
 use Rattle.hc_transcript.specs.declared.line.ToldCause.{ToldCause}
 use Rattle.hc_transcript.specs.declared.line.ToldCause.TheVariants.{Untold, NoExchange, Exchange}
 use Rattle.hc_transcript.specs.declared.open_numbers.Standing.{Standing}
+use Rattle.hc_transcript.specs.declared.reader.Lent.{Lent}
 use Rattle.hc_transcript.specs.declared.reader.RecordReader.{RecordReader}
 use Rattle.hc_transcript.specs.declared.line.Kind.{Kind}
 use Rattle.hc_transcript.specs.declared.line.Kind.TheVariants as kind
+use Rattle.hc_transcript.specs.declared.places.RecordPlaces.{RecordPlaces}
 use Rattle.hc_transcript.specs.declared.record.Passed.{Passed}
 use Rattle.hc_transcript.specs.declared.record.Passed.TheVariants as passed
 use Rattle.hc_transcript.specs.declared.record.Record.{Record}
 use Rattle.hc_transcript.specs.Limits.{longest_unfinished}
-use Rattle.hc_transcript.specs.Items.{Item, item_of}
+use Rattle.hc_transcript.specs.Items.{Item}
 use Rattle.hc_transcript.specs.History.{next_position}
 use Rattle.hc_transcript.specs.Records.{opening, line_has_cause, exchange_told, line_text, passed_kind, passed_octets, passed_cause, told, told_cause, CanTell, line_of, message_of, record_text, records_text}
 use Rattle.hc_transcript.specs.Lines.{WritesCause, IsEnd}
 use Rattle.hc_transcript.specs.Checks.{line_fault, has_right_length}
 use Rattle.hc_transcript.specs.Transcript.{is_to_head, IsItemOf, IsReadAs, Splits, IsTranscript}
-use Rattle.hc_transcript.specs.Reading.{Refuses, IsItemWith}
+use Rattle.hc_transcript.specs.Reading.{Refuses, item_at}
 use Rattle.hc_transcript.specs.Standing.{StandsAs, standing_fault}
 use Rattle.hc_transcript.specs.Malformed.{IsFramed, IsUnfinished, BreaksLine, IsNoMessage, HasNoMessage, BreaksRecord, IsUnfinishedOpening}
-use Rattle.hc_transcript.specs.Reader.{ReadsTo, Agrees, WaitsBy, Waits, MeetsFault, Advances, position_by, reader_position, HasUnreadBy}
-use Rattle.hc_transcript.specs.ReaderParts.{is_whole_by}
+use Rattle.hc_transcript.specs.Reader.{ReadsTo, Agrees, waiting, WaitsBy, Waits, MeetsFault, Advances, position_by, reader_position, HasUnreadBy}
+use Rattle.hc_transcript.specs.Lending.{behind_lent, lent_item, LiesWithin}
+use Rattle.hc_transcript.specs.ReaderParts.{is_whole_by, KeepsRead}
 use Rattle.hc_transcript.proofs.CheckLemmas.{standing_fault_is, no_message_check, order_kept}
 
 -- the checks by what the reader keeps are those after the history
 checks_same : (r : RecordReader) (octets : List ℕ) (records : List Record) (h : List Item) → Agrees r octets records h → standing_fault r.standing ≡ line_fault h
 checks_same r octets records h agrees = λ i. λ l. standing_fault_is r.standing h l agrees.stands i
 
-opened : (r : RecordReader) (format : Format) (octets : List ℕ) (records : List Record) (h : List Item) → r.format ≡ Some format → Agrees r octets records h
+-- all octets that are held wait where none are lent
+held_waits : (r : RecordReader) → r.lent ≡ None → r.held ≡ waiting r
+held_waits r none = ap (λ (o : Option Lent). behind_lent r.held o) (sym none)
+
+opened : (r : RecordReader) (format : Format) (octets : List ℕ) (records : List Record) (h : List Item) → r.format ≡ Some format → r.lent ≡ None → Agrees r octets records h
     → Splits format octets records h r.held
-opened r format octets records h is agrees = subst (λ (o : Option Format). ReadsTo o octets records h r.held) is agrees.reads
+opened r format octets records h is none agrees =
+    subst (λ (o : Option Format). ReadsTo o octets records h r.held) is (subst (λ (held : List ℕ). ReadsTo r.format octets records h held) (sym (held_waits r none)) agrees.reads)
 
 position_of : (r : RecordReader) (format : Format) (h : List Item) → r.format ≡ Some format → StandsAs r.standing h → reader_position r ≡ next_position h
 position_of r format h is stands = ap (λ (o : Option Format). position_by o r.standing.records) is ∙ ap (λ (n : ℕ). n + 1) stands.records
@@ -58,15 +66,15 @@ record_breaks format fault.TooLong h octets b = b
 record_breaks format fault.Memory h octets b = b
 record_breaks format fault.Cause h octets b = b
 
-pub stops_by_line : (r : RecordReader) (format : Format) (octets : List ℕ) (records : List Record) (h : List Item) (f : RecordFault) → r.format ≡ Some format → Agrees r octets records h
+pub stops_by_line : (r : RecordReader) (format : Format) (octets : List ℕ) (records : List Record) (h : List Item) (f : RecordFault) → r.format ≡ Some format → r.lent ≡ None → Agrees r octets records h
     → BreaksLine format (standing_fault r.standing) f r.held → MeetsFault r octets h f
-stops_by_line r format octets records h f is agrees breaks =
+stops_by_line r format octets records h f is lacks agrees breaks =
     let b : BreaksLine format (line_fault h) f r.held =
     subst (λ (check : Line → Option RecordFault). BreaksLine format check f r.held) (checks_same r octets records h agrees) breaks in
     inr (record {
       format = format;
       format_is = is;
-      breaks = record { records = records; rest = r.held; splits = opened r format octets records h is agrees; breaks = record_breaks format f h r.held b };
+      breaks = record { records = records; rest = r.held; splits = opened r format octets records h is lacks agrees; breaks = record_breaks format f h r.held b };
       position_is = position_of r format h is agrees.stands;
     })
 
@@ -84,9 +92,9 @@ item_breaks format fault.TooLong h octets Nothing so refuses other = absurd refu
 item_breaks format fault.Cause h octets Nothing so refuses other = absurd refuses
 
 pub stops_by_item : (r : RecordReader) (format : Format) (octets : List ℕ) (records : List Record) (h : List Item) (f : RecordFault) (l : Line) (message : List ℕ) (len : ℕ) (to_head : Bool)
-    → r.format ≡ Some format → Agrees r octets records h → IsFramed format (standing_fault r.standing) r.held l message len → to_head ≡ is_to_head l.kind l.number h
+    → r.format ≡ Some format → r.lent ≡ None → Agrees r octets records h → IsFramed format (standing_fault r.standing) r.held l message len → to_head ≡ is_to_head l.kind l.number h
     → Refuses f (IsNoMessage l.kind to_head message) → f ≢ fault.Memory → MeetsFault r octets h f
-stops_by_item r format octets records h f l message len to_head is agrees framed head-is refuses other =
+stops_by_item r format octets records h f l message len to_head is lacks agrees framed head-is refuses other =
     let framed' : IsFramed format (line_fault h) r.held l message len =
     subst (λ (check : Line → Option RecordFault). IsFramed format check r.held l message len) (checks_same r octets records h agrees) framed in
     let none : IsNoMessage l.kind to_head message → HasNoMessage format h r.held =
@@ -94,15 +102,16 @@ stops_by_item r format octets records h f l message len to_head is agrees framed
     inr (record {
       format = format;
       format_is = is;
-      breaks = record { records = records; rest = r.held; splits = opened r format octets records h is agrees; breaks = item_breaks format f h r.held _ none refuses other };
+      breaks = record { records = records; rest = r.held; splits = opened r format octets records h is lacks agrees; breaks = item_breaks format f h r.held _ none refuses other };
       position_is = position_of r format h is agrees.stands;
     })
 
-pub waits_on : (r : RecordReader) (format : Format) (octets : List ℕ) (records : List Record) (h : List Item) → r.format ≡ Some format → Agrees r octets records h
+pub waits_on : (r : RecordReader) (format : Format) (octets : List ℕ) (records : List Record) (h : List Item) → r.format ≡ Some format → r.lent ≡ None → Agrees r octets records h
     → IsUnfinished format (standing_fault r.standing) r.held → Waits r h
-waits_on r format octets records h is agrees waits =
-    subst (λ (o : Option Format). WaitsBy o h r.held) (sym is)
-    (subst (λ (check : Line → Option RecordFault). IsUnfinished format check r.held) (checks_same r octets records h agrees) waits)
+waits_on r format octets records h is lacks agrees waits =
+    subst (λ (held : List ℕ). WaitsBy r.format h held) (held_waits r lacks)
+    (subst (λ (o : Option Format). WaitsBy o h r.held) (sym is)
+    (subst (λ (check : Line → Option RecordFault). IsUnfinished format check r.held) (checks_same r octets records h agrees) waits))
 
 -- ---- the record of a line and a message
 
@@ -204,31 +213,75 @@ splits_next format octets records h held l message len one item splits framed re
     (subst (λ (m : List ℕ). IsItemOf l.kind l.cause l.number l.moment (is_to_head l.kind l.number h) m item) (sym message-is) reads) in
     record { octets_are = octets-are; are_read = (splits.are_read, record { told = can; keeps = ap (line_fault h) line-is ∙ framed.keeps; reads = reads-one }) }
 
-pub advances : (old new : RecordReader) (format : Format) (octets : List ℕ) (records : List Record) (h : List Item) (l : Line) (message : List ℕ) (len : ℕ) (to_head : Bool) (item : OwnedItem)
-    → old.format ≡ Some format → Agrees old octets records h → IsFramed format (standing_fault old.standing) old.held l message len → to_head ≡ is_to_head l.kind l.number h
-    → IsItemWith l to_head message item → new.held ≡ drop len old.held → new.format ≡ Some format → new.fault ≡ old.fault → StandsAs new.standing (item_of item ∷ h)
-    → new.current ≡ Some item → Advances new octets records h
-advances old new format octets records h l message len to_head item is agrees framed head-is read held-is is' fault-is stands current-is =
+-- the message stands behind the line
+message_there : (format : Format) (check : Line → Option RecordFault) (held : List ℕ) (l : Line) (message : List ℕ) (len : ℕ) → IsFramed format check held l message len
+    → piece held (len - l.size - 1) l.size ≡ message
+message_there format check held l message len framed =
+    let front : List ℕ = line_text l ++ 10 ∷ [] in
+    let held-is : held ≡ front ++ (message ++ 10 ∷ framed.rest) = framed.octets_are ∙ sym (append_assoc (line_text l) (10 ∷ []) (message ++ 10 ∷ framed.rest)) in
+    let start-is : len - l.size - 1 ≡ length front = omega (arith, framed.len_is, length-append (line_text l) (10 ∷ [])) in
+    (λ i. take l.size (drop (start-is i) (held-is i)))
+    ∙ ap (take l.size) (drop-append_seam front (message ++ 10 ∷ framed.rest))
+    ∙ ap (λ (n : ℕ). take n (message ++ 10 ∷ framed.rest)) (sym framed.size_is)
+    ∙ take-append_seam message (10 ∷ framed.rest)
+
+pub advances : (old new : RecordReader) (format : Format) (octets : List ℕ) (records : List Record) (h : List Item) (l : Line) (message : List ℕ) (len : ℕ) (to_head : Bool)
+    → old.format ≡ Some format → old.lent ≡ None → Agrees old octets records h → IsFramed format (standing_fault old.standing) old.held l message len → to_head ≡ is_to_head l.kind l.number h
+    → IsItemOf l.kind l.cause l.number l.moment to_head message (item_at new.places l message) → new.held ≡ old.held
+    → new.lent ≡ Some (record { line = l; start = len - l.size - 1; len = len }) → new.format ≡ Some format → new.fault ≡ old.fault
+    → StandsAs new.standing (item_at new.places l message ∷ h) → Advances new octets records h
+advances old new format octets records h l message len to_head is lacks agrees framed head-is read held-is lent-is is' fault-is stands =
+    let item : Item = item_at new.places l message in
     let one = record_as l message in
     let message-is : message_of one ≡ message =
     octets_as l.kind l.cause message (ap (has_right_length l.kind) framed.size_is ∙ right_length old.standing l framed.keeps) in
     let line-is : line_of format one ≡ l = line_as format l message framed.is.end framed.is.ends framed.size_is message-is in
     let framed' : IsFramed format (line_fault h) old.held l message len = subst (λ (check : Line → Option RecordFault). IsFramed format check old.held l message len) (checks_same old octets records h agrees) framed in
-    let reads : IsItemOf l.kind l.cause l.number l.moment (is_to_head l.kind l.number h) message (item_of item) =
-    subst (λ (b : Bool). IsItemOf l.kind l.cause l.number l.moment b message (item_of item)) head-is read.reads in
-    let whole : Splits format octets (one ∷ records) (item_of item ∷ h) new.held =
-    subst (λ (rest : List ℕ). Splits format octets (one ∷ records) (item_of item ∷ h) rest) (sym held-is)
-    (splits_next format octets records h old.held l message len one (item_of item) (opened old format octets records h is agrees) framed' reads (can_tell format l message framed.is.end framed.is.ends) line-is message-is) in
+    let reads : IsItemOf l.kind l.cause l.number l.moment (is_to_head l.kind l.number h) message item =
+    subst (λ (b : Bool). IsItemOf l.kind l.cause l.number l.moment b message item) head-is read in
+    let behind : waiting new ≡ drop len old.held = (λ i. behind_lent (held-is i) (lent-is i)) in
+    let whole : Splits format octets (one ∷ records) (item ∷ h) (waiting new) =
+    subst (λ (rest : List ℕ). Splits format octets (one ∷ records) (item ∷ h) rest) (sym behind)
+    (splits_next format octets records h old.held l message len one item (opened old format octets records h is lacks agrees) framed' reads (can_tell format l message framed.is.end framed.is.ends) line-is message-is) in
     record {
       one = one;
-      item = item_of item;
+      item = item;
       agrees = record {
         unfailed = fault-is ∙ agrees.unfailed;
-        reads = subst (λ (o : Option Format). ReadsTo o octets (one ∷ records) (item_of item ∷ h) new.held) (sym is') whole;
+        reads = subst (λ (o : Option Format). ReadsTo o octets (one ∷ records) (item ∷ h) (waiting new)) (sym is') whole;
         stands = stands;
       };
-      lends = record { held = item; is_held = current-is; item_is = refl };
+      lends =
+          (λ i. lent_item new.places (held-is i) (lent-is i))
+          ∙ ap (λ (m : List ℕ). Some (item_at new.places l m)) (message_there format (standing_fault old.standing) old.held l message len framed);
     }
+
+-- what is given up changes nothing of what was read
+pub given_up : (old new : RecordReader) (octets : List ℕ) (records : List Record) (h : List Item) → Agrees old octets records h
+    → new.held ≡ waiting old → new.lent ≡ None → KeepsRead old new → Agrees new octets records h
+given_up old new octets records h agrees held-is lent-is keeps =
+    let behind : waiting new ≡ waiting old = (λ i. behind_lent (held-is i) (lent-is i)) in
+    record {
+      unfailed = keeps.fault ∙ agrees.unfailed;
+      reads = subst (λ (held : List ℕ). ReadsTo new.format octets records h held) (sym behind) (subst (λ (o : Option Format). ReadsTo o octets records h (waiting old)) (sym keeps.format) agrees.reads);
+      stands = subst (λ (s : Standing). StandsAs s h) (sym keeps.standing) agrees.stands;
+    }
+
+piece_stays : (front more : List ℕ) (s l : ℕ) → s + l ≤ length front → piece (front ++ more) s l ≡ piece front s l
+piece_stays front more s l within =
+    ap (λ (o : List ℕ). take l o) (drop-append-le s front more (omega (arith, within)))
+    ∙ take-append-le l (drop s front) more (omega (arith, within, length-drop s front))
+
+-- a piece more waits behind what is lent
+pub waits_more : (held piece : List ℕ) (o : Option Lent) → LiesWithin held o → behind_lent (held ++ piece) o ≡ behind_lent held o ++ piece
+waits_more held piece None within = refl
+waits_more held piece (Some l) within = drop-append-le l.len held piece within.octets
+
+-- and what is lent stays
+pub lent_stays : (places : RecordPlaces) (held more : List ℕ) (o : Option Lent) → LiesWithin held o → lent_item places (held ++ more) o ≡ lent_item places held o
+lent_stays places held more None within = refl
+lent_stays places held more (Some l) within =
+    ap (λ (m : List ℕ). Some (item_at places l.line m)) (piece_stays held more l.start l.line.size (omega (arith, within.octets, within.message)))
 
 -- a record takes octets
 pub shrinks : (format : Format) (check : Line → Option RecordFault) (held : List ℕ) (l : Line) (message : List ℕ) (len : ℕ) → IsFramed format check held l message len → length (drop len held) < length held
@@ -269,18 +322,18 @@ opened_whole format octets held records h reads is =
     subst (λ (rs : List Record). Splits format octets rs h []) (sym reads.0)
     (subst (λ (k : List Item). Splits format octets [] k []) (sym reads.1.0) (record { octets_are = octets-are; are_read = tt }))
 
-pub whole_is : (r : RecordReader) (octets : List ℕ) (records : List Record) (h : List Item) → Agrees r octets records h → is_whole_by r.format r.held ≡ true
+pub whole_is : (r : RecordReader) (octets : List ℕ) (records : List Record) (h : List Item) → Agrees r octets records h → is_whole_by r.format (waiting r) ≡ true
     → (format : Format) × IsTranscript format octets records h
 whole_is r octets records h agrees whole = go r.format agrees.reads whole
   where
-    which : (b : Bool) → ReadsTo None octets records h r.held → bytes_eq r.held (opening form.First) ≡ b → (b || bytes_eq r.held (opening form.Second)) ≡ true
+    which : (b : Bool) → ReadsTo None octets records h (waiting r) → bytes_eq (waiting r) (opening form.First) ≡ b → (b || bytes_eq (waiting r) (opening form.Second)) ≡ true
         → (format : Format) × IsTranscript format octets records h
-    which true reads first whole = (form.First, opened_whole form.First octets r.held records h reads ((bytes_eq-Decides r.held (opening form.First)).0 first))
-    which false reads first whole = (form.Second, opened_whole form.Second octets r.held records h reads ((bytes_eq-Decides r.held (opening form.Second)).0 whole))
+    which true reads first whole = (form.First, opened_whole form.First octets (waiting r) records h reads ((bytes_eq-Decides (waiting r) (opening form.First)).0 first))
+    which false reads first whole = (form.Second, opened_whole form.Second octets (waiting r) records h reads ((bytes_eq-Decides (waiting r) (opening form.Second)).0 whole))
 
-    go : (o : Option Format) → ReadsTo o octets records h r.held → is_whole_by o r.held ≡ true → (format : Format) × IsTranscript format octets records h
-    go (Some format) reads whole = (format, subst (λ (rest : List ℕ). Splits format octets records h rest) (empty_of r.held whole) reads)
-    go None reads whole = which (bytes_eq r.held (opening form.First)) reads refl whole
+    go : (o : Option Format) → ReadsTo o octets records h (waiting r) → is_whole_by o (waiting r) ≡ true → (format : Format) × IsTranscript format octets records h
+    go (Some format) reads whole = (format, subst (λ (rest : List ℕ). Splits format octets records h rest) (empty_of (waiting r) whole) reads)
+    go None reads whole = which (bytes_eq (waiting r) (opening form.First)) reads refl whole
 
 pub unread_left : (o : Option Format) (held : List ℕ) → is_whole_by o held ≡ false → HasUnreadBy o held
 unread_left (Some format) held e = not_empty_of held e

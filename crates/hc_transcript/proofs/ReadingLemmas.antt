@@ -14,7 +14,7 @@ use Rattle.hc_framing.specs.declared.message.Message.{Message}
 use Rattle.hc_framing.specs.Faults.{IsWholeRequest, IsWholeResponse}
 use Rattle.hc_transcript.specs.declared.fault.RecordFault.{RecordFault}
 use Rattle.hc_transcript.specs.Malformed.{IsNoRequest, LacksTarget, IsNoResponse, IsInterim}
-use Rattle.hc_transcript.specs.Reading.{Refuses, message_fault, target_fault, GivesRequestRead, GivesResponseRead}
+use Rattle.hc_transcript.specs.Reading.{Refuses, message_fault, target_fault, GivesRequestRead, GivesResponseRead, found_request, found_response}
 
 -- a fault of a message that isn't of memory says it
 message_refused : (f : FrameFault) (Nothing : Type 0) → (f ≢ frames.Memory → Nothing) → Refuses (message_fault f) Nothing
@@ -38,25 +38,25 @@ target_refused heads.Host Nothing says = says (λ e. cc)
 target_refused heads.Target Nothing says = says (λ e. cc)
 
 -- octets that are no request
-pub no_request : (octets : List ℕ) (f : FrameFault) (answer : Result (Message RequestHead × Target) RecordFault) → IsErrAnd answer (λ g. g ≡ message_fault f)
-    → ((m : Message RequestHead) → IsWholeRequest octets RECORDED m → f ≡ frames.Memory) → GivesRequestRead answer octets
-no_request octets f (Ok r) is none = absurd is
-no_request octets f (Err g) is none =
+pub no_request : (octets : List ℕ) (f : FrameFault) (answer : Result (Unit {0}) RecordFault) (m : Message RequestHead) (t : Target) → IsErrAnd answer (λ g. g ≡ message_fault f)
+    → ((m : Message RequestHead) → IsWholeRequest octets RECORDED m → f ≡ frames.Memory) → GivesRequestRead (found_request answer m t) octets
+no_request octets f (Ok done) m t is none = absurd is
+no_request octets f (Err g) m t is none =
     subst (λ (h : RecordFault). Refuses h (IsNoRequest octets ⊎ LacksTarget octets)) (sym is)
     (message_refused f (IsNoRequest octets ⊎ LacksTarget octets) (λ other. inl (λ m whole. other (none m whole))))
 
 -- a request without a target
-pub no_target : (octets : List ℕ) (m : Message RequestHead) (f : HeadFault) (answer : Result (Message RequestHead × Target) RecordFault) → IsErrAnd answer (λ g. g ≡ target_fault f)
-    → IsWholeRequest octets RECORDED m → ((t : Target) → HasTarget m.head t → f ≡ heads.Memory) → GivesRequestRead answer octets
-no_target octets m f (Ok r) is whole none = absurd is
-no_target octets m f (Err g) is whole none =
+pub no_target : (octets : List ℕ) (m : Message RequestHead) (f : HeadFault) (answer : Result (Unit {0}) RecordFault) (t : Target) → IsErrAnd answer (λ g. g ≡ target_fault f)
+    → IsWholeRequest octets RECORDED m → ((t : Target) → HasTarget m.head t → f ≡ heads.Memory) → GivesRequestRead (found_request answer m t) octets
+no_target octets m f (Ok done) t is whole none = absurd is
+no_target octets m f (Err g) t is whole none =
     subst (λ (h : RecordFault). Refuses h (IsNoRequest octets ⊎ LacksTarget octets)) (sym is)
     (target_refused f (IsNoRequest octets ⊎ LacksTarget octets) (λ other. inr (record { request = m; whole = whole; none = λ t has. other (none t has) })))
 
 -- octets that are no response
-pub no_response : (to_head : Bool) (octets : List ℕ) (f : FrameFault) (answer : Result (Message ResponseHead) RecordFault) → IsErrAnd answer (λ g. g ≡ message_fault f)
-    → ((m : Message ResponseHead) → IsWholeResponse to_head octets RECORDED m → f ≡ frames.Memory) → GivesResponseRead to_head answer octets
-no_response to_head octets f (Ok r) is none = absurd is
-no_response to_head octets f (Err g) is none =
+pub no_response : (to_head : Bool) (octets : List ℕ) (f : FrameFault) (answer : Result (Unit {0}) RecordFault) (m : Message ResponseHead) → IsErrAnd answer (λ g. g ≡ message_fault f)
+    → ((m : Message ResponseHead) → IsWholeResponse to_head octets RECORDED m → f ≡ frames.Memory) → GivesResponseRead to_head (found_response answer m) octets
+no_response to_head octets f (Ok done) m is none = absurd is
+no_response to_head octets f (Err g) m is none =
     subst (λ (h : RecordFault). Refuses h (IsNoResponse to_head octets ⊎ IsInterim to_head octets)) (sym is)
     (message_refused f (IsNoResponse to_head octets ⊎ IsInterim to_head octets) (λ other. inl (λ m whole. other (none m whole))))

@@ -7,8 +7,8 @@ use Rattle.hc_head.specs.Methods.{is_head}
 use Rattle.hc_framing.specs.declared.message.Message.{Message}
 use Rattle.hc_transcript.specs.declared.item.Meaning.{Meaning}
 use Rattle.hc_transcript.specs.declared.item.Meaning.TheVariants as meaning
-use Rattle.hc_transcript.specs.declared.item.MeaningView.{MeaningView}
-use Rattle.hc_transcript.specs.declared.item.MeaningView.TheVariants as seen
+use Rattle.hc_transcript.specs.declared.view.MeaningView.{MeaningView}
+use Rattle.hc_transcript.specs.declared.view.MeaningView.TheVariants as seen
 use Rattle.hc_transcript.specs.declared.item.OwnedItem.{OwnedItem}
 use Rattle.hc_transcript.specs.declared.line.Kind.{Kind}
 use Rattle.hc_transcript.specs.declared.line.Kind.TheVariants as kind

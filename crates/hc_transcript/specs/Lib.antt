@@ -12,5 +12,6 @@ pub mod Written
 pub mod Reading
 pub mod Standing
 pub mod Converting
+pub mod Lending
 pub mod Reader
 pub mod ReaderParts

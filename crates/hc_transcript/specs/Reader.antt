@@ -3,10 +3,10 @@ use Rattle.std.specs.Prelude.{◌≡◌, ◌≢◌, ℕ, ◌+◌, ◌⊎◌, Boo
 use Rattle.hc_transcript.specs.declared.fault.RecordFault.{RecordFault}
 use Rattle.hc_transcript.specs.declared.fault.RecordFault.TheVariants as fault
 use Rattle.hc_transcript.specs.declared.format.Format.{Format}
-use Rattle.hc_transcript.specs.declared.item.OwnedItem.{OwnedItem}
 use Rattle.hc_transcript.specs.declared.reader.RecordReader.{RecordReader}
 use Rattle.hc_transcript.specs.declared.record.Record.{Record}
-use Rattle.hc_transcript.specs.Items.{Item, item_of}
+use Rattle.hc_transcript.specs.Items.{Item}
+use Rattle.hc_transcript.specs.Lending.{behind_lent, lent_item}
 use Rattle.hc_transcript.specs.History.{next_position}
 use Rattle.hc_transcript.specs.Records.{opening}
 use Rattle.hc_transcript.specs.Checks.{line_fault}
@@ -19,10 +19,14 @@ abbrev pub ReadsTo : Option Format → List ℕ → List Record → List Item �
 ReadsTo None octets records h held = (records ≡ []) × ((h ≡ []) × (octets ≡ held))
 ReadsTo (Some format) octets records h held = Splits format octets records h held
 
+-- the octets that wait behind those that are lent
+abbrev pub waiting : RecordReader → List ℕ
+waiting r = behind_lent r.held r.lent
+
 -- the reader was given these octets, and has read of them these records, the newest first, as these items
 pub record Agrees (r : RecordReader) (octets : List ℕ) (records : List Record) (h : List Item) : Type 0 where
   pub unfailed : r.fault ≡ None
-  pub reads : ReadsTo r.format octets records h r.held
+  pub reads : ReadsTo r.format octets records h (waiting r)
   pub stands : StandsAs r.standing h
 
 -- the format that the opening told; none before it was read
@@ -40,11 +44,15 @@ WaitsBy None h held = IsUnfinishedOpening held
 WaitsBy (Some format) h held = IsUnfinished format (line_fault h) held
 
 abbrev pub Waits : RecordReader → List Item → Type 0
-Waits r h = WaitsBy r.format h r.held
+Waits r h = WaitsBy r.format h (waiting r)
 
 -- how many octets wait to be read
 abbrev pub unread : RecordReader → ℕ
-unread r = length r.held
+unread r = length (waiting r)
+
+-- how many octets are held, those that are lent among them
+abbrev pub octets_held : RecordReader → ℕ
+octets_held r = length r.held
 
 -- how many records were read
 abbrev pub records_read : RecordReader → ℕ
@@ -62,20 +70,14 @@ HasUnreadBy None held = (format : Format) → held ≢ opening format
 HasUnreadBy (Some format) held = held ≢ []
 
 abbrev pub HasUnread : RecordReader → Type 0
-HasUnread r = HasUnreadBy r.format r.held
+HasUnread r = HasUnreadBy r.format (waiting r)
 
 -- what the reader lends: what the record that was read last means
-abbrev pub lent : RecordReader → Option OwnedItem
-lent r = r.current
+abbrev pub lent : RecordReader → Option Item
+lent r = lent_item r.places r.held r.lent
 
 abbrev pub HasItem : RecordReader → Type 0
 HasItem r = IsSome (lent r)
-
--- what the reader lends means the item
-pub record Lends (r : RecordReader) (item : Item) : Type 0 where
-  pub held : OwnedItem
-  pub is_held : lent r ≡ Some held
-  pub item_is : item_of held ≡ item
 
 -- the fault that the reader has met, which it answers for ever
 abbrev pub fault_met : RecordReader → Option RecordFault
@@ -116,7 +118,7 @@ pub record Advances (r : RecordReader) (octets : List ℕ) (records : List Recor
   pub one : Record
   pub item : Item
   pub agrees : Agrees r octets (one ∷ records) (item ∷ h)
-  pub lends : Lends r item
+  pub lends : lent r ≡ Some item
 
 -- the position stays, or is that of the record behind those that were read; it is that where one was read
 abbrev pub PositionsNext : Result Bool RecordFault → RecordReader → RecordReader → Type 0

@@ -7,7 +7,6 @@ use Rattle.hc_transcript.specs.declared.format.Format.TheVariants as form
 use Rattle.hc_transcript.specs.declared.reader.RecordReader.{RecordReader}
 use Rattle.hc_transcript.specs.Records.{opening}
 use Rattle.hc_transcript.specs.Malformed.{HasNoOpening, IsUnfinishedOpening}
-use Rattle.hc_transcript.specs.Reader.{lent}
 
 -- an opening is there, and no octet behind what was read
 abbrev pub is_whole_by : Option Format → List ℕ → Bool
@@ -16,7 +15,13 @@ is_whole_by (Some format) held = length held == 0
 
 -- nothing but what is read changes
 abbrev pub KeepsRest : RecordReader → RecordReader → Type 0
-KeepsRest old new = (new.standing ≡ old.standing) × ((new.fault ≡ old.fault) × (lent new ≡ lent old))
+KeepsRest old new = (new.standing ≡ old.standing) × ((new.fault ≡ old.fault) × (new.lent ≡ None))
+
+-- what was read stays
+pub record KeepsRead (old new : RecordReader) : Type 0 where
+  pub format : new.format ≡ old.format
+  pub standing : new.standing ≡ old.standing
+  pub fault : new.fault ≡ old.fault
 
 -- what the answer to a reading of the opening says
 abbrev pub GivesOpening : Result (Option Format) RecordFault → RecordReader → RecordReader → Type 0

@@ -17,7 +17,7 @@ use crate::format::{Format, format_at, may_open};
 use crate::framed::{Framed, record_at};
 use crate::line::{Line, ToldCause};
 use crate::open_numbers::Standing;
-use crate::reading::read_item;
+use crate::places::RecordPlaces;
 use crate::writing::write_line;
 use std::alloc::{AllocError, Global};
 use thiserror::Error;
@@ -88,7 +88,7 @@ fn opening_fault(octets: &[u8]) -> RecordFault
 
 /// The record that begins what is left of a transcript.
 fn next_record<'a>(
-    alloc: Global,
+    places: &mut RecordPlaces,
     format: Format,
     rest: &'a [u8],
     standing: &mut Standing,
@@ -107,11 +107,10 @@ fn next_record<'a>(
         Ok(Some(framed)) => framed,
     };
     let to_head = standing.is_to_head(framed.line.kind, framed.line.number);
-    let item = match read_item(alloc, &framed.line, framed.message, to_head) {
-        Err(fault) => return Err(malformed_at(position, fault)),
-        Ok(item) => item,
-    };
-    standing.note(&item)?;
+    if let Err(fault) = places.find(&framed.line, framed.message, to_head) {
+        return Err(malformed_at(position, fault));
+    }
+    standing.note(&places.record(&framed.line, framed.message))?;
     Ok(framed)
 }
 
@@ -140,10 +139,11 @@ pub fn convert(alloc: Global, octets: &[u8]) -> Result<Vec<u8>, ConvertFault>
     let mut text = Vec::new(alloc);
     text.extend_from_slice(Format::First.opening())?;
     let mut standing = Standing::new(alloc);
+    let mut places = RecordPlaces::new(alloc);
     let (_, behind) = octets.split_at(format.opening().len());
     let mut rest = behind;
     while !rest.is_empty() {
-        let framed = next_record(alloc, format, rest, &mut standing)?;
+        let framed = next_record(&mut places, format, rest, &mut standing)?;
         append_without_cause(&mut text, &framed.line, framed.message)?;
         let (_, behind) = rest.split_at(framed.len);
         rest = behind;

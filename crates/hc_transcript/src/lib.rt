@@ -12,9 +12,10 @@ mod limits;
 mod line;
 mod numerals;
 mod open_numbers;
-mod reader;
 mod places;
+mod reader;
 mod record;
+mod view;
 mod writing;
 
 pub use converting::{ConvertFault, convert};
@@ -30,4 +31,5 @@ pub use line::{Kind, Line, ToldCause};
 pub use numerals::numeral;
 pub use reader::RecordReader;
 pub use record::{Passed, Record};
+pub use view::{MeaningView, RecordView};
 pub use writing::{append_record, record_parts, write_record};

@@ -9,9 +9,9 @@ ghost use Rattle.hc_transcript.specs.Checks.{has_right_length, has_right_number,
 ghost use Rattle.hc_transcript.specs.Transcript.{is_to_head};
 
 use crate::fault::RecordFault;
-use crate::item::{MeaningView, RecordView};
 use crate::limits::{GREATEST_MOMENT, GREATEST_NUMBER, LONGEST_MESSAGE};
 use crate::line::{Kind, Line, ToldCause};
+use crate::view::{MeaningView, RecordView};
 use std::alloc::{AllocError, Global};
 use std::collections::BTreeMap;
 
@@ -141,14 +141,14 @@ impl Standing {
     }
 
     /// Notes the next record. After an `Err` it counts as many records as before.
-    pub(crate) fn note(&mut self, record: &RecordView<'_>) -> Result<(), AllocError>
-        requires { CanFollow self.old record.now }
-        ensures ok { (h : List Item) → StandsAs self.old h → OnOk result (StandsAs self.new (record.now ∷ h)) }
+    pub(crate) fn note(&mut self, view: &RecordView<'_>) -> Result<(), AllocError>
+        requires { CanFollow self.old view.now }
+        ensures ok { (h : List Item) → StandsAs self.old h → OnOk result (StandsAs self.new (view.now ∷ h)) }
         ensures records { self.new.records ≡ (if is_ok result then self.old.records + 1 else self.old.records) }
     {
-        let number = record.number;
-        let moment = record.moment;
-        match &record.of {
+        let number = view.number;
+        let moment = view.moment;
+        match &view.of {
             MeaningView::ClientRequest { request, .. } => {
                 self.open_exchange(number, moment, request.head.is_head())
             }

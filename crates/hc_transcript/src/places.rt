@@ -3,8 +3,8 @@
 ghost use Rattle.std.specs.Prelude.{◌≡◌, ◌≤◌};
 
 use crate::fault::RecordFault;
-use crate::item::{MeaningView, RecordView};
 use crate::line::{Kind, Line};
+use crate::view::{MeaningView, RecordView};
 use hc_fields::Octets;
 use hc_framing::Places;
 use hc_head::{Target, lent_target};
@@ -61,7 +61,12 @@ impl RecordPlaces {
     }
 
     /// Finds what octets mean behind that line; `to_head` tells whether a response answers HEAD.
-    pub(crate) fn find(&mut self, line: &Line, octets: &[u8], to_head: bool) -> Result<(), RecordFault>
+    pub(crate) fn find(
+        &mut self,
+        line: &Line,
+        octets: &[u8],
+        to_head: bool,
+    ) -> Result<(), RecordFault>
         ensures { GivesItem line.now to_head octets.now result (item_at self.new line.now octets.now) }
     {
         match line.kind {

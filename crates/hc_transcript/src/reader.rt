@@ -3,27 +3,40 @@
 ghost use Rattle.std.specs.Prelude.{◌≡◌, ◌≢◌, ℕ, ◌+◌, ◌<◌, ◌≤◌, ◌⊎◌, List, [], ◌∷◌, ◌++◌, length, Some, None, is_ok, IsSome, OnOk, OnErr, IfErr, Ok, Err, true, false, if◌then◌else◌};
 ghost use Rattle.hc_transcript.specs.declared.record.Record.{Record};
 ghost use Rattle.hc_transcript.specs.Limits.{greatest_moment, longest_unfinished};
-ghost use Rattle.hc_transcript.specs.Items.{Item, item_of};
+ghost use Rattle.hc_transcript.specs.Items.{Item, moment_of};
+ghost use Rattle.hc_transcript.specs.Lending.{LiesWithin};
 ghost use Rattle.hc_transcript.specs.Transcript.{IsTranscript};
 
 use crate::fault::RecordFault;
 use crate::format::{Format, format_at, may_open};
-use crate::framed::record_at;
-use crate::item::OwnedItem;
+use crate::framed::{Framed, record_at};
+use crate::line::Line;
 use crate::open_numbers::Standing;
-use crate::reading::read_item;
-use hc_fields::Waiting;
+use crate::places::RecordPlaces;
+use crate::view::RecordView;
+use hc_fields::{Waiting, piece};
 use std::alloc::Global;
 
-/// Reads the records of a transcript that comes in pieces. It holds the octets that were fed and
-/// not yet read, and what the record that was read last means.
+/// A record that is lent: its line, where its message begins, and how many octets it takes.
+#[derive(Clone, Copy)]
+struct Lent {
+    line: Line,
+    start: usize,
+    len: usize,
+}
+
+/// Reads the records of a transcript that comes in pieces. It holds the octets of the record that it
+/// lends, and those that were fed and not yet read.
 pub struct RecordReader {
     alloc: Global,
+    /// The octets of the record that is lent, and those that wait behind it.
     held: Waiting,
+    lent: Option<Lent>,
+    places: RecordPlaces,
     format: Option<Format>,
     standing: Standing,
-    current: Option<OwnedItem>,
     fault: Option<RecordFault>,
+    ghost within: { LiesWithin held lent },
 }
 
 impl Drop for RecordReader {
@@ -31,20 +44,21 @@ impl Drop for RecordReader {
         let RecordReader {
             alloc: _,
             held,
+            lent: _,
+            places,
             format: _,
             standing,
-            current,
             fault: _,
         } = self;
         drop(held);
+        drop(places);
         drop(standing);
-        drop(current);
     }
 }
 
 impl RecordReader {
-    ghost use Rattle.hc_transcript.specs.Reader.{Agrees, GivesAdvance, PositionsNext, HasFailed, HasNoFault, fault_met, HasItem, Lends, lent, CountsRecord, HasUnread, unread, records_read, format_read, KeepsFormat, BeginsAs, reader_position};
-    ghost use Rattle.hc_transcript.specs.ReaderParts.{is_whole_by, GivesOpening};
+    ghost use Rattle.hc_transcript.specs.Reader.{Agrees, GivesAdvance, PositionsNext, HasFailed, HasNoFault, fault_met, HasItem, lent, waiting, CountsRecord, HasUnread, unread, octets_held, records_read, format_read, KeepsFormat, BeginsAs, reader_position};
+    ghost use Rattle.hc_transcript.specs.ReaderParts.{is_whole_by, GivesOpening, KeepsRead};
 
     /// A reader that was given nothing.
     pub fn new(alloc: Global) -> Self
@@ -53,9 +67,10 @@ impl RecordReader {
         RecordReader {
             alloc,
             held: Waiting::new(alloc),
+            lent: None,
+            places: RecordPlaces::new(alloc),
             format: None,
             standing: Standing::new(alloc),
-            current: None,
             fault: None,
         }
     }
@@ -84,7 +99,7 @@ impl RecordReader {
         Ok(())
     }
 
-    /// Reads the next record, if it is whole: `true` where one was read, which `item` then lends.
+    /// Reads the next record, if it is whole: `true` where one was read, which `view` then lends.
     /// What was lent before is given up. After a fault that fault is answered again, and nothing
     /// changes.
     pub fn advance(&mut self) -> Result<bool, RecordFault>
@@ -109,7 +124,7 @@ impl RecordReader {
         if let Some(earlier) = self.fault {
             return Err(earlier);
         }
-        drop(self.current.take());
+        self.give_up();
         match self.step() {
             Ok(found) => Ok(found),
             Err(fault) => {
@@ -119,38 +134,45 @@ impl RecordReader {
         }
     }
 
-    /// What the record that was read last means.
-    pub fn item(&self) -> &OwnedItem
+    /// Gives up what is lent.
+    fn give_up(&mut self)
+        ensures held { self.new.held ≡ waiting self.old }
+        ensures none { self.new.lent ≡ None }
+        ensures stay { KeepsRead self.old self.new }
+    {
+        if let Some(lent) = self.lent.take() {
+            self.held.skip(lent.len);
+        }
+    }
+
+    /// The record that was read last, with its message read. It is lent until the next call of `advance`.
+    pub fn view(&self) -> RecordView<'_>
         requires { HasItem self.now }
-        ensures lent { lent self.now ≡ Some result.now }
-        ensures item { (item : Item) → Lends self.now item → item_of result.now ≡ item }
-        ensures in_time { result.now.moment ≤ greatest_moment }
+        ensures lent { lent self.now ≡ Some result }
+        ensures in_time { moment_of result ≤ greatest_moment }
     {
-        self.current.as_ref().unwrap()
+        let lent = self.lent.unwrap();
+        let message = piece(self.held.as_slice(), lent.start, lent.line.size as usize);
+        self.places.record(&lent.line, message)
     }
 
-    /// Takes out what the record that was read last means, after which none is lent until the next is
-    /// read.
-    pub fn take_item(&mut self) -> OwnedItem
-        requires { HasItem self.old }
-        ensures lent { lent self.old ≡ Some result }
-        ensures item { (item : Item) → Lends self.old item → item_of result ≡ item }
-        ensures in_time { result.moment ≤ greatest_moment }
-        ensures agrees { (octets : List ℕ) (records : List Record) (h : List Item) → Agrees self.old octets records h
-            → Agrees self.new octets records h }
-        ensures unread { unread self.new ≡ unread self.old }
-        ensures counted { records_read self.new ≡ records_read self.old }
-        ensures position { reader_position self.new ≡ reader_position self.old }
-        ensures format { format_read self.new ≡ format_read self.old }
-        ensures fault { fault_met self.new ≡ fault_met self.old }
-        ensures taken { lent self.new ≡ None }
+    /// The octets that wait behind those that are lent.
+    fn waiting(&self) -> &[u8]
+        ensures { result.now ≡ waiting self.now }
     {
-        self.current.take().unwrap()
+        let held = self.held.as_slice();
+        match self.lent {
+            None => held,
+            Some(lent) => {
+                let (_, behind) = held.split_at(lent.len);
+                behind
+            }
+        }
     }
 
-    /// How many octets were fed and not yet read.
+    /// How many octets it holds: those of the record that is lent, and those that were not yet read.
     pub fn rest(&self) -> usize
-        ensures { result ≡ unread self.now }
+        ensures { result ≡ octets_held self.now }
     {
         self.held.as_slice().len()
     }
@@ -210,9 +232,9 @@ impl RecordReader {
 
     /// Whether an opening is there, and no octet after the last record that was read.
     fn is_whole(&self) -> bool
-        ensures { result ≡ is_whole_by self.now.format self.now.held }
+        ensures { result ≡ is_whole_by self.now.format (waiting self.now) }
     {
-        let left = self.held.as_slice();
+        let left = self.waiting();
         match self.format {
             Some(_) => left.is_empty(),
             None => left == Format::First.opening() || left == Format::Second.opening(),
@@ -221,7 +243,7 @@ impl RecordReader {
 
     /// Reads the opening where that is still to be read, and the next record, if both are whole.
     fn step(&mut self) -> Result<bool, RecordFault>
-        requires { lent self.old ≡ None }
+        requires { self.old.lent ≡ None }
         ensures gives { (octets : List ℕ) (records : List Record) (h : List Item) → Agrees self.old octets records h
             → GivesAdvance result self.new octets records h }
         ensures lends { result ≡ Ok true → HasItem self.new }
@@ -250,7 +272,8 @@ impl RecordReader {
 
     /// Reads the opening, if it is whole, and answers its format.
     fn read_opening(&mut self) -> Result<Option<Format>, RecordFault>
-        requires { self.old.format ≡ None }
+        requires format { self.old.format ≡ None }
+        requires lent { self.old.lent ≡ None }
         ensures { GivesOpening result self.old self.new }
     {
         let held = self.held.as_slice();
@@ -269,7 +292,7 @@ impl RecordReader {
     /// Reads the record behind the opening, if it is whole.
     fn read_record(&mut self, format: Format) -> Result<bool, RecordFault>
         requires format { self.old.format ≡ Some format }
-        requires lent { lent self.old ≡ None }
+        requires lent { self.old.lent ≡ None }
         ensures gives { (octets : List ℕ) (records : List Record) (h : List Item) → Agrees self.old octets records h
             → GivesAdvance result self.new octets records h }
         ensures lends { result ≡ Ok true → HasItem self.new }
@@ -288,14 +311,17 @@ impl RecordReader {
         let to_head = self
             .standing
             .is_to_head(framed.line.kind, framed.line.number);
-        let item = match read_item(self.alloc, &framed.line, framed.message, to_head) {
-            Err(fault) => return Err(fault),
-            Ok(item) => item,
-        };
-        let len = framed.len;
-        self.standing.note(&item)?;
-        self.current = Some(item);
-        self.held.skip(len);
+        if let Err(fault) = self.places.find(&framed.line, framed.message, to_head) {
+            return Err(fault);
+        }
+        self.standing
+            .note(&self.places.record(&framed.line, framed.message))?;
+        let Framed { line, len, .. } = framed;
+        self.lent = Some(Lent {
+            line,
+            start: len - line.size as usize - 1,
+            len,
+        });
         Ok(true)
     }
 }
