@@ -71,7 +71,7 @@ pub record AtTrailer (r : FramingReader) (octets body : List ℕ) : Type 0 where
   pub short : length (concat chunks) ≤ longest_body
   pub trailer : AgreesTrailer r.trailer (drop len last)
 
--- by the stage
+-- what it agrees with in each stage: the octets that it was given, and the body so far
 abbrev pub AgreesAt : Stage → Framing → FramingReader → List ℕ → List ℕ → Type 0
 AgreesAt at.Sized framing r octets body = (framing ≡ Sized (length octets + r.left)) × (0 < r.left) × (body ≡ octets)
 AgreesAt at.Line framing r octets body = (framing ≡ Chunked) × AtLine r octets body

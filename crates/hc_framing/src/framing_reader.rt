@@ -55,7 +55,7 @@ pub(crate) struct FramingReader {
     stage: Stage,
     /// How many octets are to come, of the body or of the chunk's data.
     left: usize,
-    /// How many octets the chunks have, as their lines say; or have come until the close.
+    /// How many octets the chunks have so far, as their lines say, or have come until the close.
     count: usize,
     line: ChunkLineReader,
     trailer: TrailerReader,
