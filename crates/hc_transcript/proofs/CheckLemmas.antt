@@ -15,13 +15,15 @@ use Rattle.hc_transcript.specs.declared.line.ToldCause.{ToldCause}
 use Rattle.hc_transcript.specs.declared.line.ToldCause.TheVariants.{Untold, NoExchange, Exchange}
 use Rattle.hc_transcript.specs.declared.open_numbers.Standing.{Standing}
 use Rattle.hc_transcript.specs.Limits.{greatest_number, greatest_moment, longest_message}
-use Rattle.hc_transcript.specs.Items.{Item}
+use Rattle.hc_transcript.specs.declared.places.RecordPlaces.{RecordPlaces}
+use Rattle.hc_transcript.specs.Items.{Item, item_kind, item_number}
+use Rattle.hc_transcript.specs.Reading.{item_by, item_at}
 use Rattle.hc_transcript.specs.History.{exchange_of, forward_of, last_moment, last_exchange, last_forward}
 use Rattle.hc_transcript.specs.Checks.{has_right_length, has_right_number, cause_is_open, has_right_cause, answers_open, first_fault, line_fault}
 use Rattle.hc_transcript.specs.Records.{line_text}
 use Rattle.hc_transcript.specs.Lines.{IsLineText}
 use Rattle.hc_transcript.proofs.LineLaws.{CauseFits, line_text_written}
-use Rattle.hc_transcript.specs.Standing.{StandsAs, standing_cause_is_open, standing_fault, CanFollowAs, exchange_head, forward_head}
+use Rattle.hc_transcript.specs.Standing.{StandsAs, standing_cause_is_open, standing_fault, CanFollowAs, CanFollow, exchange_head, forward_head}
 
 -- a test that has to hold before the next
 passes : (b : Bool) (f : RecordFault) (rest : Option RecordFault) → cond (not b) (Some f) rest ≡ None → (b ≡ true) × (rest ≡ None)
@@ -109,10 +111,27 @@ follows kind.OriginFailure s n right is = is_there (get nat_cmp s.forwards n) is
 follows kind.ClientReply s n right is = is_there (get nat_cmp s.exchanges n) is
 
 -- a line that passes the checks may follow
-pub can_follow : (s : Standing) (l : Line) (k : Kind) (n : ℕ) → standing_fault s l ≡ None → k ≡ l.kind → n ≡ l.number → CanFollowAs k s n
-can_follow s l k n none k-is n-is =
-    let o = order_kept s l none in
-    subst (λ (j : Kind). CanFollowAs j s n) (sym k-is) (subst (λ (m : ℕ). CanFollowAs l.kind s m) (sym n-is) (follows l.kind s l.number o.right_number o.is_open))
+can_follow : (s : Standing) (l : Line) → standing_fault s l ≡ None → CanFollowAs l.kind s l.number
+can_follow s l none = let o = order_kept s l none in follows l.kind s l.number o.right_number o.is_open
+
+kind_of : (k : Kind) (p : RecordPlaces) (l : Line) (octets : List ℕ) → item_kind (item_by k p l octets) ≡ k
+kind_of kind.ClientRequest p l octets = refl
+kind_of kind.OriginRequest p l octets = refl
+kind_of kind.OriginResponse p l octets = refl
+kind_of kind.OriginFailure p l octets = refl
+kind_of kind.ClientReply p l octets = refl
+
+number_of : (k : Kind) (p : RecordPlaces) (l : Line) (octets : List ℕ) → item_number (item_by k p l octets) ≡ l.number
+number_of kind.ClientRequest p l octets = refl
+number_of kind.OriginRequest p l octets = refl
+number_of kind.OriginResponse p l octets = refl
+number_of kind.OriginFailure p l octets = refl
+number_of kind.ClientReply p l octets = refl
+
+pub item_can_follow : (s : Standing) (l : Line) (p : RecordPlaces) (octets : List ℕ) → standing_fault s l ≡ None → CanFollow s (item_at p l octets)
+item_can_follow s l p octets none =
+    subst (λ (j : Kind). CanFollowAs j s (item_number (item_at p l octets))) (sym (kind_of l.kind p l octets))
+    (subst (λ (m : ℕ). CanFollowAs l.kind s m) (sym (number_of l.kind p l octets)) (can_follow s l none))
 
 is_some-map : {A B : Type 0} (f : A → B) (o : Option A) → is_some (option_map f o) ≡ is_some o
 is_some-map f None = refl

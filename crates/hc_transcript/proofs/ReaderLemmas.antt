@@ -32,8 +32,8 @@ use Rattle.hc_transcript.specs.Transcript.{is_to_head, IsItemOf, IsReadAs, Split
 use Rattle.hc_transcript.specs.Reading.{Refuses, item_at}
 use Rattle.hc_transcript.specs.Standing.{StandsAs, standing_fault}
 use Rattle.hc_transcript.specs.Malformed.{IsFramed, IsUnfinished, BreaksLine, IsNoMessage, HasNoMessage, BreaksRecord, IsUnfinishedOpening}
-use Rattle.hc_transcript.specs.Reader.{ReadsTo, Agrees, waiting, WaitsBy, Waits, MeetsFault, Advances, position_by, reader_position, HasUnreadBy}
-use Rattle.hc_transcript.specs.Lending.{behind_lent, lent_item, LiesWithin}
+use Rattle.hc_transcript.specs.Reader.{ReadsTo, Agrees, waiting, unread, WaitsBy, Waits, MeetsFault, Advances, position_by, reader_position, HasUnreadBy}
+use Rattle.hc_transcript.specs.Lending.{lent_len, lent_end, lent_item}
 use Rattle.hc_transcript.specs.ReaderParts.{is_whole_by, KeepsRead}
 use Rattle.hc_transcript.proofs.CheckLemmas.{standing_fault_is, no_message_check, order_kept}
 
@@ -43,7 +43,7 @@ checks_same r octets records h agrees = λ i. λ l. standing_fault_is r.standing
 
 -- all octets that are held wait where none are lent
 held_waits : (r : RecordReader) → r.lent ≡ None → r.held ≡ waiting r
-held_waits r none = ap (λ (o : Option Lent). behind_lent r.held o) (sym none)
+held_waits r none = ap (λ (o : Option Lent). drop (lent_len o) r.held) (sym none)
 
 opened : (r : RecordReader) (format : Format) (octets : List ℕ) (records : List Record) (h : List Item) → r.format ≡ Some format → r.lent ≡ None → Agrees r octets records h
     → Splits format octets records h r.held
@@ -239,7 +239,7 @@ advances old new format octets records h l message len to_head is lacks agrees f
     let framed' : IsFramed format (line_fault h) old.held l message len = subst (λ (check : Line → Option RecordFault). IsFramed format check old.held l message len) (checks_same old octets records h agrees) framed in
     let reads : IsItemOf l.kind l.cause l.number l.moment (is_to_head l.kind l.number h) message item =
     subst (λ (b : Bool). IsItemOf l.kind l.cause l.number l.moment b message item) head-is read in
-    let behind : waiting new ≡ drop len old.held = (λ i. behind_lent (held-is i) (lent-is i)) in
+    let behind : waiting new ≡ drop len old.held = (λ i. drop (lent_len (lent-is i)) (held-is i)) in
     let whole : Splits format octets (one ∷ records) (item ∷ h) (waiting new) =
     subst (λ (rest : List ℕ). Splits format octets (one ∷ records) (item ∷ h) rest) (sym behind)
     (splits_next format octets records h old.held l message len one item (opened old format octets records h is lacks agrees) framed' reads (can_tell format l message framed.is.end framed.is.ends) line-is message-is) in
@@ -260,7 +260,7 @@ advances old new format octets records h l message len to_head is lacks agrees f
 pub given_up : (old new : RecordReader) (octets : List ℕ) (records : List Record) (h : List Item) → Agrees old octets records h
     → new.held ≡ waiting old → new.lent ≡ None → KeepsRead old new → Agrees new octets records h
 given_up old new octets records h agrees held-is lent-is keeps =
-    let behind : waiting new ≡ waiting old = (λ i. behind_lent (held-is i) (lent-is i)) in
+    let behind : waiting new ≡ waiting old = (λ i. drop (lent_len (lent-is i)) (held-is i)) in
     record {
       unfailed = keeps.fault ∙ agrees.unfailed;
       reads = subst (λ (held : List ℕ). ReadsTo new.format octets records h held) (sym behind) (subst (λ (o : Option Format). ReadsTo o octets records h (waiting old)) (sym keeps.format) agrees.reads);
@@ -273,22 +273,27 @@ piece_stays front more s l within =
     ∙ take-append-le l (drop s front) more (omega (arith, within, length-drop s front))
 
 -- a piece more waits behind what is lent
-pub waits_more : (held piece : List ℕ) (o : Option Lent) → LiesWithin held o → behind_lent (held ++ piece) o ≡ behind_lent held o ++ piece
-waits_more held piece None within = refl
-waits_more held piece (Some l) within = drop-append-le l.len held piece within.octets
+pub waits_more : (held piece : List ℕ) (o : Option Lent) → lent_len o ≤ length held → drop (lent_len o) (held ++ piece) ≡ drop (lent_len o) held ++ piece
+waits_more held piece o within = drop-append-le (lent_len o) held piece within
 
 -- and what is lent stays
-pub lent_stays : (places : RecordPlaces) (held more : List ℕ) (o : Option Lent) → LiesWithin held o → lent_item places (held ++ more) o ≡ lent_item places held o
-lent_stays places held more None within = refl
-lent_stays places held more (Some l) within =
-    ap (λ (m : List ℕ). Some (item_at places l.line m)) (piece_stays held more l.start l.line.size (omega (arith, within.octets, within.message)))
+pub lent_stays : (places : RecordPlaces) (held more : List ℕ) (o : Option Lent) → lent_len o ≤ length held → lent_end o ≤ lent_len o → lent_item places (held ++ more) o ≡ lent_item places held o
+lent_stays places held more None within inside = refl
+lent_stays places held more (Some l) within inside =
+    ap (λ (m : List ℕ). Some (item_at places l.line m)) (piece_stays held more l.start l.line.size (omega (arith, within, inside)))
 
 -- a record takes octets
 pub shrinks : (format : Format) (check : Line → Option RecordFault) (held : List ℕ) (l : Line) (message : List ℕ) (len : ℕ) → IsFramed format check held l message len → length (drop len held) < length held
 shrinks format check held l message len framed =
     omega (arith, framed.len_is, length-drop len held, ap length framed.octets_are, length-append (line_text l) (10 ∷ (message ++ 10 ∷ framed.rest)), length-append message (10 ∷ framed.rest))
 
+pub shrinks_from : (old : RecordReader) → old.lent ≡ None → (n : ℕ) → n < length old.held → n < unread old
+shrinks_from old lacks n less = omega (arith, less, ap length (held_waits old lacks))
+
 -- ---- what is left
+
+pub short_by_none : (r : RecordReader) → r.lent ≡ None → length r.held ≤ longest_unfinished → unread r ≤ longest_unfinished
+short_by_none r lacks short = omega (arith, short, ap length (held_waits r lacks))
 
 -- less than a record is left where none is whole
 pub unfinished_is_short : (format : Format) (s : Standing) (octets : List ℕ) → IsUnfinished format (standing_fault s) octets → length octets ≤ longest_unfinished

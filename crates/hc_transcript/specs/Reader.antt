@@ -1,12 +1,12 @@
 -- A reader of records, and the octets that it was given.
-use Rattle.std.specs.Prelude.{◌≡◌, ◌≢◌, ℕ, ◌+◌, ◌⊎◌, Bool, true, false, List, [], ◌∷◌, ◌++◌, length, Option, Some, None, Result, Ok, Err, IsSome}
+use Rattle.std.specs.Prelude.{◌≡◌, ◌≢◌, ℕ, ◌+◌, ◌⊎◌, Bool, true, false, List, [], ◌∷◌, ◌++◌, length, drop, Option, Some, None, Result, Ok, Err, IsSome}
 use Rattle.hc_transcript.specs.declared.fault.RecordFault.{RecordFault}
 use Rattle.hc_transcript.specs.declared.fault.RecordFault.TheVariants as fault
 use Rattle.hc_transcript.specs.declared.format.Format.{Format}
 use Rattle.hc_transcript.specs.declared.reader.RecordReader.{RecordReader}
 use Rattle.hc_transcript.specs.declared.record.Record.{Record}
 use Rattle.hc_transcript.specs.Items.{Item}
-use Rattle.hc_transcript.specs.Lending.{behind_lent, lent_item}
+use Rattle.hc_transcript.specs.Lending.{lent_len, lent_item}
 use Rattle.hc_transcript.specs.History.{next_position}
 use Rattle.hc_transcript.specs.Records.{opening}
 use Rattle.hc_transcript.specs.Checks.{line_fault}
@@ -21,7 +21,7 @@ ReadsTo (Some format) octets records h held = Splits format octets records h hel
 
 -- the octets that wait behind those that are lent
 abbrev pub waiting : RecordReader → List ℕ
-waiting r = behind_lent r.held r.lent
+waiting r = drop (lent_len r.lent) r.held
 
 -- the reader was given these octets, and has read of them these records, the newest first, as these items
 pub record Agrees (r : RecordReader) (octets : List ℕ) (records : List Record) (h : List Item) : Type 0 where
@@ -79,6 +79,9 @@ lent r = lent_item r.places r.held r.lent
 abbrev pub HasItem : RecordReader → Type 0
 HasItem r = IsSome (lent r)
 
+abbrev pub Lends : RecordReader → Item → Type 0
+Lends r item = lent r ≡ Some item
+
 -- the fault that the reader has met, which it answers for ever
 abbrev pub fault_met : RecordReader → Option RecordFault
 fault_met r = r.fault
@@ -118,7 +121,7 @@ pub record Advances (r : RecordReader) (octets : List ℕ) (records : List Recor
   pub one : Record
   pub item : Item
   pub agrees : Agrees r octets (one ∷ records) (item ∷ h)
-  pub lends : lent r ≡ Some item
+  pub lends : Lends r item
 
 -- the position stays, or is that of the record behind those that were read; it is that where one was read
 abbrev pub PositionsNext : Result Bool RecordFault → RecordReader → RecordReader → Type 0

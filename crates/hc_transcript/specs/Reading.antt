@@ -1,5 +1,5 @@
 -- Plumbing: what the functions that read a record's octets answer.
-use Rattle.std.specs.Prelude.{◌⊎◌, Bool, List, Option, Some, None, Result, Ok, Err}
+use Rattle.std.specs.Prelude.{ℕ, ◌⊎◌, Bool, List, Option, Some, None, Result, Ok, Err}
 use Rattle.hc_head.specs.declared.fault.HeadFault.{HeadFault}
 use Rattle.hc_head.specs.declared.fault.HeadFault.TheVariants as heads
 use Rattle.hc_head.specs.declared.head.RequestHead.{RequestHead}

@@ -107,8 +107,9 @@ fn next_record<'a>(
         Ok(Some(framed)) => framed,
     };
     let to_head = standing.is_to_head(framed.line.kind, framed.line.number);
-    if let Err(fault) = places.find(&framed.line, framed.message, to_head) {
-        return Err(malformed_at(position, fault));
+    match places.find(&framed.line, framed.message, to_head) {
+        Err(fault) => return Err(malformed_at(position, fault)),
+        Ok(()) => {}
     }
     standing.note(&places.record(&framed.line, framed.message))?;
     Ok(framed)

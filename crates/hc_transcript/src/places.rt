@@ -45,7 +45,9 @@ impl RecordPlaces {
         ensures { GivesRequestRead (found_request result (request_at self.new.places octets.now) self.new.target) octets.now }
     {
         self.places.find_request(octets)?;
-        self.target = lent_target(self.alloc, &self.places.request(octets).head)?;
+        let request = self.places.request(octets);
+        let target = lent_target(self.alloc, &request.head)?;
+        self.target = target;
         Ok(())
     }
 

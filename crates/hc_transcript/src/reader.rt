@@ -4,7 +4,7 @@ ghost use Rattle.std.specs.Prelude.{◌≡◌, ◌≢◌, ℕ, ◌+◌, ◌<◌,
 ghost use Rattle.hc_transcript.specs.declared.record.Record.{Record};
 ghost use Rattle.hc_transcript.specs.Limits.{greatest_moment, longest_unfinished};
 ghost use Rattle.hc_transcript.specs.Items.{Item, moment_of};
-ghost use Rattle.hc_transcript.specs.Lending.{LiesWithin};
+ghost use Rattle.hc_transcript.specs.Lending.{lent_len, lent_end, lent_moment};
 ghost use Rattle.hc_transcript.specs.Transcript.{IsTranscript};
 
 use crate::fault::RecordFault;
@@ -36,7 +36,9 @@ pub struct RecordReader {
     format: Option<Format>,
     standing: Standing,
     fault: Option<RecordFault>,
-    ghost within: { LiesWithin held lent },
+    ghost octets_within: { lent_len lent ≤ length held },
+    ghost message_within: { lent_end lent ≤ lent_len lent },
+    ghost in_time: { lent_moment lent ≤ greatest_moment },
 }
 
 impl Drop for RecordReader {
@@ -311,8 +313,9 @@ impl RecordReader {
         let to_head = self
             .standing
             .is_to_head(framed.line.kind, framed.line.number);
-        if let Err(fault) = self.places.find(&framed.line, framed.message, to_head) {
-            return Err(fault);
+        match self.places.find(&framed.line, framed.message, to_head) {
+            Err(fault) => return Err(fault),
+            Ok(()) => {}
         }
         self.standing
             .note(&self.places.record(&framed.line, framed.message))?;

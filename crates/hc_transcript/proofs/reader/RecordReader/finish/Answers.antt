@@ -1,4 +1,5 @@
 use Rattle.std.proofs.Common.{sym, ◌∙◌}
+use Rattle.hc_transcript.specs.Reader.{waiting}
 use Rattle.hc_transcript.proofs.ReaderLemmas.{whole_is, unread_left}
 use Rattle.hc_transcript.proofs.reader.RecordReader.finish.Goals as goal
 
@@ -7,4 +8,4 @@ returns-clause-ok c = λ octets records h agrees. whole_is c.args.self.now octet
 
 pub returns-then-not-is_whole-clause-torn : goal.returns-then-not-is_whole-clause-torn
 returns-then-not-is_whole-clause-torn c = λ octets records h agrees.
-    unread_left c.args.self.now.format c.args.self.now.held (sym c.is_whole.ensures ∙ c.if-not-is_whole.true)
+    unread_left c.args.self.now.format (waiting c.args.self.now) (sym c.is_whole.ensures ∙ c.if-not-is_whole.true)
