@@ -2,7 +2,7 @@
 
 ghost use Rattle.std.specs.Prelude.{◌≡◌, List, ◌∷◌, option_copied, OnOk, IfOk};
 ghost use Rattle.std.specs.Option.{option_map};
-ghost use Rattle.hc_transcript.specs.Items.{Item, item_of};
+ghost use Rattle.hc_transcript.specs.Items.{Item};
 ghost use Rattle.hc_transcript.specs.History.{next_position, exchange_of, forward_of, cause_of};
 ghost use Rattle.hc_history.specs.Claims.{claim_of};
 ghost use Rattle.hc_history.specs.Seen.{Seen, IsSeenAs, has_forward_in, live_of};
@@ -13,7 +13,7 @@ ghost use Rattle.hc_index.specs.Lists.{cause_seen, forward_seen, state_in};
 use crate::kept::OpenForward;
 use hc_head::Target;
 use hc_history::{Candidate, Finding, MarkedReply, ReplyClaim, Settings};
-use hc_transcript::{Format, OwnedItem};
+use hc_transcript::{Format, RecordView};
 use hc_update::Stored;
 use std::alloc::AllocError;
 
@@ -25,9 +25,14 @@ pub trait Index {
     /// Takes in the next record of a transcript of that format, which stands at that position: an index
     /// that is seen as the history before it is then seen as the history with it. After an error nothing
     /// is said of what the index knows, and it is to be asked no more.
-    fn note(&mut self, position: u64, item: OwnedItem, format: Format) -> Result<(), AllocError>
+    fn note(
+        &mut self,
+        position: u64,
+        view: &RecordView<'_>,
+        format: Format,
+    ) -> Result<(), AllocError>
         ensures { (h : List Item) → position ≡ next_position h → IsSeenAs format (seen self.old) h
-            → OnOk result (IsSeenAs format (seen self.new) (item_of item ∷ h)) };
+            → OnOk result (IsSeenAs format (seen self.new) (view.now ∷ h)) };
 
     /// What is found of a reply to the open exchange of that number, which comes next in a transcript of
     /// that format, at that moment: that it is right, or the least reason why it is wrong. Where no

@@ -4,7 +4,6 @@ ghost use Rattle.std.specs.Prelude.{◌≡◌};
 ghost use Rattle.hc_history.specs.Seen.{remaining};
 
 use hc_fields::SharedOctets;
-use hc_framing::Message;
 use hc_head::{Method, RequestHead, StatusCode, Target};
 use hc_transcript::ToldCause;
 use hc_update::Stored;
@@ -83,18 +82,13 @@ impl Drop for OpenExchange {
 
 impl OpenExchange {
     /// The exchange of a request.
-    pub(crate) fn new(
-        number: u64,
-        position: u64,
-        request: Message<RequestHead>,
-        target: Target,
-    ) -> Self
-        ensures { result ≡ record { number = number; position = position; request = request.head; target = target } }
+    pub(crate) fn new(number: u64, position: u64, request: RequestHead, target: Target) -> Self
+        ensures { result ≡ record { number = number; position = position; request = request; target = target } }
     {
         OpenExchange {
             number,
             position,
-            request: request.head,
+            request,
             target,
         }
     }
@@ -131,17 +125,12 @@ pub struct OpenForward {
 
 impl OpenForward {
     /// The forward of a request that was sent at that moment.
-    pub(crate) fn new(
-        moment: u64,
-        request: Message<RequestHead>,
-        target: Target,
-        cause: Option<u64>,
-    ) -> Self
-        ensures { result ≡ record { moment = moment; request = request.head; target = target; cause = cause } }
+    pub(crate) fn new(moment: u64, request: RequestHead, target: Target, cause: Option<u64>) -> Self
+        ensures { result ≡ record { moment = moment; request = request; target = target; cause = cause } }
     {
         OpenForward {
             moment,
-            request: request.head,
+            request,
             target,
             cause,
         }

@@ -5,7 +5,7 @@ ghost use Rattle.std.specs.BTreeMap.{get};
 ghost use Rattle.hc_fields.specs.Numbers.{end_of_moments};
 ghost use Rattle.hc_head.specs.declared.head.Target.{Target};
 ghost use Rattle.hc_head.specs.Targets.{same_target};
-ghost use Rattle.hc_transcript.specs.Items.{Item, ClientRequest, OriginRequest, OriginResponse, OriginFailure, ClientReply, item_of};
+ghost use Rattle.hc_transcript.specs.Items.{Item, ClientRequest, OriginRequest, OriginResponse, OriginFailure, ClientReply};
 ghost use Rattle.hc_head.specs.Statuses.{is_error_status};
 ghost use Rattle.hc_transcript.specs.declared.format.Format.{Format};
 ghost use Rattle.hc_history.specs.Seen.{IsSeenAs};
@@ -18,12 +18,12 @@ use crate::index::Index;
 use crate::kept::{LiveResponse, OpenExchange, OpenForward, WatchedExchange};
 use crate::list_finding::{candidates, claim, finding};
 use crate::lives::{answer_lives, begin_live};
-use crate::noting::{Noting, note_item};
+use crate::noting::{Noting, note_record};
 use crate::sent::{add_sent, begin_anew};
 use hc_framing::Message;
 use hc_head::{RequestHead, ResponseHead, Target, is_error_status};
 use hc_history::{Candidate, Finding, MarkedReply, ReplyClaim, Settings};
-use hc_transcript::{Format, OwnedItem, ToldCause};
+use hc_transcript::{Format, RecordView, ToldCause};
 use hc_update::Stored;
 use std::alloc::{AllocError, Global};
 use std::collections::{BTreeMap, BTreeSet};
@@ -118,7 +118,7 @@ impl Noting for ListIndex {
         &mut self,
         number: u64,
         position: u64,
-        request: Message<RequestHead>,
+        request: RequestHead,
         target: Target,
     ) -> Result<(), AllocError> {
         let watched = WatchedExchange {
@@ -138,7 +138,7 @@ impl Noting for ListIndex {
         &mut self,
         number: u64,
         moment: u64,
-        request: Message<RequestHead>,
+        request: RequestHead,
         target: Target,
         cause: Option<u64>,
     ) -> Result<(), AllocError> {
@@ -178,8 +178,13 @@ impl Noting for ListIndex {
 impl Index for ListIndex {
     ghost seen = { λ index. seen_in index };
 
-    fn note(&mut self, position: u64, item: OwnedItem, format: Format) -> Result<(), AllocError> {
-        note_item(self, position, item, format)
+    fn note(
+        &mut self,
+        position: u64,
+        view: &RecordView<'_>,
+        format: Format,
+    ) -> Result<(), AllocError> {
+        note_record(self.alloc, self, position, view, format)
     }
 
     fn find(

@@ -2,7 +2,7 @@
 
 ghost use Rattle.std.specs.Prelude.{◌≡◌, ◌<◌, ℕ, [], OnOk};
 ghost use Rattle.hc_fields.specs.Numbers.{end_of_moments};
-ghost use Rattle.hc_transcript.specs.Items.{ClientRequest, OriginRequest, OriginResponse, OriginFailure, ClientReply, item_of};
+ghost use Rattle.hc_transcript.specs.Items.{ClientRequest, OriginRequest, OriginResponse, OriginFailure, ClientReply};
 ghost use Rattle.hc_transcript.specs.declared.format.Format.{Format};
 ghost use Rattle.hc_history.specs.Seen.{IsSeenAs};
 ghost use Rattle.hc_history.specs.Noting.{Notes};
@@ -12,13 +12,13 @@ use crate::at_target::AtTarget;
 use crate::index::Index;
 use crate::kept::{OpenExchange, OpenForward, PooledExchange};
 use crate::map_finding::{candidates, claim, finding, response};
-use crate::noting::{Noting, note_item};
+use crate::noting::{Noting, note_record};
 use crate::sent::{add_sent, begin_anew};
 use crate::targets::{answer_at, close_at, fail_at, open_at};
 use hc_framing::Message;
 use hc_head::{RequestHead, ResponseHead, Target};
 use hc_history::{Candidate, Finding, MarkedReply, ReplyClaim, Settings};
-use hc_transcript::{Format, OwnedItem, ToldCause};
+use hc_transcript::{Format, RecordView, ToldCause};
 use hc_update::Stored;
 use std::alloc::{AllocError, Global};
 use std::collections::{BTreeMap, BTreeSet};
@@ -72,7 +72,7 @@ impl Noting for MapIndex {
         &mut self,
         number: u64,
         position: u64,
-        request: Message<RequestHead>,
+        request: RequestHead,
         target: Target,
     ) -> Result<(), AllocError> {
         begin_anew(&mut self.forwarded, number);
@@ -97,7 +97,7 @@ impl Noting for MapIndex {
         &mut self,
         number: u64,
         moment: u64,
-        request: Message<RequestHead>,
+        request: RequestHead,
         target: Target,
         cause: Option<u64>,
     ) -> Result<(), AllocError> {
@@ -135,8 +135,13 @@ impl Noting for MapIndex {
 impl Index for MapIndex {
     ghost seen = { λ index. seen_in index };
 
-    fn note(&mut self, position: u64, item: OwnedItem, format: Format) -> Result<(), AllocError> {
-        note_item(self, position, item, format)
+    fn note(
+        &mut self,
+        position: u64,
+        view: &RecordView<'_>,
+        format: Format,
+    ) -> Result<(), AllocError> {
+        note_record(self.alloc, self, position, view, format)
     }
 
     fn find(

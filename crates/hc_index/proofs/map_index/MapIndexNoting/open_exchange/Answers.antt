@@ -7,7 +7,7 @@ use Rattle.hc_index.proofs.map_index.MapIndexNoting.open_exchange.Goals as goal
 pub returns : goal.returns
 returns c =
     let pooled : PooledExchange = record {
-      exchange = record { number = c.args.number; position = c.args.position; request = c.args.request.head; target = c.args.target };
+      exchange = record { number = c.args.number; position = c.args.position; request = c.args.request; target = c.args.target };
       behind = c.in_ok-behind.behind;
     } in
     let new : MapIndex = record {
@@ -17,7 +17,7 @@ returns c =
       forwards = c.args.self.now.forwards;
       forwarded = c.begin_anew.new.forwarded;
     } in
-    λ format moment. notes_request format c.args.self.now c.args.number c.args.position moment c.args.request pooled new
+    λ format moment body. notes_request format c.args.self.now c.args.number c.args.position moment (record { head = c.args.request; body = body }) pooled new
     (record {
       exchanges = λ e. search rules;
       targets = c.in_ok-behind.ensures;
