@@ -16,7 +16,7 @@ use Rattle.hc_transcript.specs.History.{exchange_of, next_position, last_moment,
 use Rattle.hc_transcript.specs.Checks.{line_fault}
 use Rattle.hc_transcript.specs.Transcript.{Splits, IsTranscript}
 use Rattle.hc_transcript.specs.Malformed.{IsUnfinishedOpening, IsUnfinished, BreaksAfter}
-use Rattle.hc_transcript.specs.Reader.{Agrees, ReadsTo, WaitsBy, Waits, MeetsFault, HasUnread, HasUnreadBy, format_read, position_by, reader_position, records_read}
+use Rattle.hc_transcript.specs.Reader.{Agrees, ReadsTo, WaitsBy, Waits, MeetsFault, HasUnread, HasUnreadBy, format_read, position_by, reader_position, records_read, waiting}
 use Rattle.hc_transcript.proofs.CheckLemmas.{no_torn_check}
 use Rattle.hc_transcript.proofs.OnceLemmas.{one_opening, broken_more, no_opening_more}
 use Rattle.hc_history.specs.declared.reasons.Reason.{Reason}
@@ -56,7 +56,7 @@ some_opening e = cc
 pub fresh_waits : (r : RecordReader) → Agrees r [] [] [] → Waits r []
 fresh_waits r agrees = go r.format agrees.reads
   where
-    go : (o : Option Format) → ReadsTo o [] [] [] r.held → WaitsBy o [] r.held
+    go : (o : Option Format) → ReadsTo o [] [] [] (waiting r) → WaitsBy o [] (waiting r)
     go None reads = subst (λ (held : List ℕ). IsUnfinishedOpening held) reads.1.1 (First, opening First, refl, some_opening)
     go (Some format) reads = absurd (no_opening_yet format _ reads.octets_are)
 
@@ -76,9 +76,9 @@ pub may_be_split : (r : RecordReader) (octets : List ℕ) (records others : List
     → Splits format octets others g rest → MayBeOf (format_read r) format
 may_be_split r octets records others h g rest format agrees splits = go r.format agrees.reads
   where
-    go : (o : Option Format) → ReadsTo o octets records h r.held → MayBeOf o format
+    go : (o : Option Format) → ReadsTo o octets records h (waiting r) → MayBeOf o format
     go None reads = tt
-    go (Some read) reads = one_opening octets read format records others h g r.held rest reads splits
+    go (Some read) reads = one_opening octets read format records others h g (waiting r) rest reads splits
 
 -- ---- a fault of the transcript
 
@@ -164,8 +164,8 @@ mark_known format settings e reply h (Some exchange) is some = ap (λ (b : Bool)
 
 -- what a reader has read of the octets that told the format
 splits_of : (r : RecordReader) (format : Format) (octets : List ℕ) (records : List Record) (h : List Item) → format_read r ≡ Some format → Agrees r octets records h
-    → Splits format octets records h r.held
-splits_of r format octets records h is agrees = subst (λ (o : Option Format). ReadsTo o octets records h r.held) is agrees.reads
+    → Splits format octets records h (waiting r)
+splits_of r format octets records h is agrees = subst (λ (o : Option Format). ReadsTo o octets records h (waiting r)) is agrees.reads
 
 -- what holds in the formats that the octets might be of before holds in the one that was read since
 pub in_the_read : (P : Format → Type 0) (old new : Option Format) (format : Format) → ((k : Format) → old ≡ Some k → new ≡ Some k) → new ≡ Some format → ((k : Format) → MayBeOf old k → P k) → P format
@@ -191,7 +191,7 @@ module _ {I : Type 0} (seen : I → Seen) (j : Judge I) (settings : Settings) (o
       records = a.one ∷ a.records;
       history = h;
       item = a.item;
-      rest = j.reader.held;
+      rest = waiting j.reader;
       splits = splits_of j.reader format octets (a.one ∷ a.records) (a.item ∷ h) a.format_is a.reads;
       all_right = right;
       is_wrong = found_wrong format settings h a.item why ahead_open found;
@@ -227,7 +227,7 @@ pub torn_of : (r : RecordReader) (octets : List ℕ) (settings : Settings) (reco
     → HasUnread r → IsVerdict octets settings (Malformed (reader_position r) fault.Torn)
 torn_of r octets settings records h agrees right waits unread = go r.format agrees.reads right waits unread
   where
-    go : (o : Option Format) → ReadsTo o octets records h r.held → AreRight o settings h → WaitsBy o h r.held → HasUnreadBy o r.held
+    go : (o : Option Format) → ReadsTo o octets records h (waiting r) → AreRight o settings h → WaitsBy o h (waiting r) → HasUnreadBy o (waiting r)
         → IsVerdict octets settings (Malformed (position_by o r.standing.records) fault.Torn)
     go None reads right waits unread = inl (refl, inr (subst (λ (o : List ℕ). IsUnfinishedOpening o) (sym reads.1.1) waits, refl))
     go (Some format) reads right waits unread =
@@ -235,7 +235,7 @@ torn_of r octets settings records h agrees right waits unread = go r.format agre
           format = format;
           history = h;
           all_right = right format refl;
-          breaks = inr (refl, record { records = records; rest = r.held; splits = reads; some = unread; torn = waits });
+          breaks = inr (refl, record { records = records; rest = waiting r; splits = reads; some = unread; torn = waits });
           position_is = ap (λ (n : ℕ). n + 1) agrees.stands.records;
         })
 
@@ -283,13 +283,13 @@ may_go_on : (r : RecordReader) (octets : List ℕ) (settings : Settings) (record
     → MayGoOn octets settings
 may_go_on r octets settings records h agrees right waits = go r.format agrees.reads right waits
   where
-    go : (o : Option Format) → ReadsTo o octets records h r.held → AreRight o settings h → WaitsBy o h r.held → MayGoOn octets settings
+    go : (o : Option Format) → ReadsTo o octets records h (waiting r) → AreRight o settings h → WaitsBy o h (waiting r) → MayGoOn octets settings
     go None reads right waits = record {
       verdict = Malformed 0 fault.Torn;
       may = refl;
       is = inl (refl, inr (subst (λ (o : List ℕ). IsUnfinishedOpening o) (sym reads.1.1) waits, refl));
     }
-    go (Some format) reads right waits = ends_behind format octets settings records h r.held reads (right format refl) waits
+    go (Some format) reads right waits = ends_behind format octets settings records h (waiting r) reads (right format refl) waits
 
 pub may_change : {I : Type 0} (seen : I → Seen) (j : Judge I) (octets : List ℕ) (settings : Settings) (verdict : Verdict) → IsWaiting seen j settings octets → IsVerdict octets settings verdict
     → MayChange verdict

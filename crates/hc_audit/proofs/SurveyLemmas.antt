@@ -11,7 +11,7 @@ use Rattle.hc_transcript.specs.History.{next_position}
 use Rattle.hc_transcript.specs.Transcript.{IsTranscript, Splits}
 use Rattle.hc_transcript.specs.Malformed.{IsUnfinishedOpening, IsUnfinished}
 use Rattle.hc_transcript.specs.Checks.{line_fault}
-use Rattle.hc_transcript.specs.Reader.{Agrees, ReadsTo, WaitsBy, Waits, MeetsFault, HasUnread, HasUnreadBy, format_read, position_by, reader_position}
+use Rattle.hc_transcript.specs.Reader.{Agrees, ReadsTo, WaitsBy, Waits, MeetsFault, HasUnread, HasUnreadBy, format_read, position_by, reader_position, waiting}
 use Rattle.hc_transcript.proofs.OnceLemmas.{one as one_reading, same_format}
 use Rattle.hc_history.specs.declared.settings.Settings.{Settings}
 use Rattle.hc_history.specs.declared.verdicts.Finding.{Finding}
@@ -149,7 +149,7 @@ pub met_ends : (r s : RecordReader) (octets : List ℕ) (settings : Settings) (r
     → EndsSo (Broken position f) settings octets h wrongs
 met_ends r s octets settings records h f position wrongs agrees keeps wrong met is =
     let now : AreWrong (format_read s) settings h wrongs = λ k may. wrong k (might_be_of (format_read r) (format_read s) keeps k may) in
-    let none : format_read s ≡ None → (h ≡ []) × (wrongs ≡ []) = λ e. none_before (format_read r) octets r.held records h settings wrongs agrees.reads wrong (was_none (format_read r) (format_read s) keeps e) in
+    let none : format_read s ≡ None → (h ≡ []) × (wrongs ≡ []) = λ e. none_before (format_read r) octets (waiting r) records h settings wrongs agrees.reads wrong (was_none (format_read r) (format_read s) keeps e) in
     subst (λ (n : ℕ). EndsSo (Broken n f) settings octets h wrongs) (sym is) (record {
       is_last = not_torn s octets h f met;
       holds = λ more. broken s (octets ++ more) settings h f wrongs now none (met_more s octets more h f met);
@@ -175,20 +175,20 @@ torn_of : (r : RecordReader) (octets : List ℕ) (settings : Settings) (records 
     → AreWrong (format_read r) settings h wrongs → Waits r h → HasUnread r → IsSurveyOf octets settings h wrongs (Broken (reader_position r) fault.Torn)
 torn_of r octets settings records h wrongs agrees wrong waits unread = go r.format agrees.reads wrong waits unread
   where
-    go : (o : Option Format) → ReadsTo o octets records h r.held → AreWrong o settings h wrongs → WaitsBy o h r.held → HasUnreadBy o r.held
+    go : (o : Option Format) → ReadsTo o octets records h (waiting r) → AreWrong o settings h wrongs → WaitsBy o h (waiting r) → HasUnreadBy o (waiting r)
         → IsSurveyOf octets settings h wrongs (Broken (position_by o r.standing.records) fault.Torn)
     go None reads wrong waits unread =
-        let nothing = none_before None octets r.held records h settings wrongs reads wrong refl in
+        let nothing = none_before None octets (waiting r) records h settings wrongs reads wrong refl in
         let unfinished = subst (λ (o : List ℕ). IsUnfinishedOpening o) (sym reads.1.1) waits in
         record { items = inl (refl, inr (unfinished, refl), nothing.0); wrong = inl (refl, inr (unfinished, refl), nothing.1) }
     go (Some format) reads wrong waits unread =
         let position-is = ap (λ (n : ℕ). n + 1) agrees.stands.records in record {
-          items = inr (format, inr (refl, record { records = records; rest = r.held; splits = reads; some = unread; torn = waits }), position-is);
+          items = inr (format, inr (refl, record { records = records; rest = waiting r; splits = reads; some = unread; torn = waits }), position-is);
           wrong = inr (record {
             format = format;
             history = h;
             are_wrong = wrong format refl;
-            breaks = inr (refl, record { records = records; rest = r.held; splits = reads; some = unread; torn = waits });
+            breaks = inr (refl, record { records = records; rest = waiting r; splits = reads; some = unread; torn = waits });
             position_is = position-is;
           });
         }
@@ -240,13 +240,13 @@ may_go_on : (r : RecordReader) (octets : List ℕ) (settings : Settings) (record
     → AreWrong (format_read r) settings h wrongs → Waits r h → GoesOn octets settings wrongs
 may_go_on r octets settings records h wrongs agrees wrong waits = go r.format agrees.reads wrong waits
   where
-    go : (o : Option Format) → ReadsTo o octets records h r.held → AreWrong o settings h wrongs → WaitsBy o h r.held → GoesOn octets settings wrongs
+    go : (o : Option Format) → ReadsTo o octets records h (waiting r) → AreWrong o settings h wrongs → WaitsBy o h (waiting r) → GoesOn octets settings wrongs
     go None reads wrong waits = record {
       ending = Broken 0 fault.Torn;
       may = refl;
-      are = inl (refl, inr (subst (λ (o : List ℕ). IsUnfinishedOpening o) (sym reads.1.1) waits, refl), (none_before None octets r.held records h settings wrongs reads wrong refl).1);
+      are = inl (refl, inr (subst (λ (o : List ℕ). IsUnfinishedOpening o) (sym reads.1.1) waits, refl), (none_before None octets (waiting r) records h settings wrongs reads wrong refl).1);
     }
-    go (Some format) reads wrong waits = ends_behind format octets settings records h r.held wrongs reads (wrong format refl) waits
+    go (Some format) reads wrong waits = ends_behind format octets settings records h (waiting r) wrongs reads (wrong format refl) waits
 
 -- a survey that is open
 pub open_is : {I : Type 0} (seen : I → Seen) (reach : Reach I) (settings : Settings) (octets : List ℕ) (h : List Item) (wrongs : List WrongReply) (judge : Judge I) → reach ≡ Open judge
@@ -313,13 +313,13 @@ pub counted : (r : RecordReader) (octets : List ℕ) (settings : Settings) (reco
     → IsVerdict octets settings (Yes counts)
 counted r octets settings records h counts agrees wrong waits counts-are whole = go r.format agrees.reads wrong waits counts-are
   where
-    go : (o : Option Format) → ReadsTo o octets records h r.held → AreWrong o settings h [] → WaitsBy o h r.held → ((k : Format) → MayBeOf o k → counts ≡ counts_of k settings h)
+    go : (o : Option Format) → ReadsTo o octets records h (waiting r) → AreWrong o settings h [] → WaitsBy o h (waiting r) → ((k : Format) → MayBeOf o k → counts ≡ counts_of k settings h)
         → IsVerdict octets settings (Yes counts)
     go None reads wrong waits are =
         absurd (torn_is_whole 0
         (one_list octets settings [] [] (Broken 0 fault.Torn) Whole (inl (refl, inr (subst (λ (o : List ℕ). IsUnfinishedOpening o) (sym reads.1.1) waits, refl), refl)) whole).1)
     go (Some format) reads wrong waits are =
-        subst (λ (c : Counts). IsVerdict octets settings (Yes c)) (sym (are format refl)) (counted_behind format octets settings records h r.held reads (wrong format refl) waits whole)
+        subst (λ (c : Counts). IsVerdict octets settings (Yes c)) (sym (are format refl)) (counted_behind format octets settings records h (waiting r) reads (wrong format refl) waits whole)
 
 pub open_counts : {I : Type 0} (seen : I → Seen) (reach : Reach I) (settings : Settings) (octets : List ℕ) (h : List Item) (judge : Judge I) → reach ≡ Open judge
     → SurveysBy seen reach settings octets h [] → AreWrongReplies octets settings [] Whole → IsVerdict octets settings (Yes judge.counts)

@@ -1,6 +1,6 @@
 -- What an auditor is after octets that it doesn't keep.
 use Rattle.std.specs.Prelude.{◌≡◌, ℕ, List, Option, Some, None}
-use Rattle.hc_transcript.specs.Reader.{unread}
+use Rattle.hc_transcript.specs.Reader.{octets_held}
 use Rattle.hc_history.specs.declared.settings.Settings.{Settings}
 use Rattle.hc_history.specs.declared.verdicts.Verdict.{Verdict}
 use Rattle.hc_history.specs.Seen.{Seen}
@@ -35,7 +35,7 @@ settled auditor = settled_by auditor.stage
 
 -- how many octets wait to be judged: none where a verdict stands, or a fault was answered
 abbrev pub rest_by : {I : Type 0} → Stage I → ℕ
-rest_by (Open judge) = unread judge.reader
+rest_by (Open judge) = octets_held judge.reader
 rest_by (Settled verdict) = 0
 rest_by Failed = 0
 

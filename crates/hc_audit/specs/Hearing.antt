@@ -1,6 +1,6 @@
 -- What a witness is handed of a record.
 use Rattle.std.specs.Prelude.{◌≡◌, Bool, true, false, List, IsSome}
-use Rattle.hc_transcript.specs.Items.{Item, ClientReply, ClientRequest, OriginFailure, OriginRequest, OriginResponse, item_of}
+use Rattle.hc_transcript.specs.Items.{Item, ClientReply, ClientRequest, OriginFailure, OriginRequest, OriginResponse}
 use Rattle.hc_transcript.specs.History.{next_position, exchange_of}
 use Rattle.hc_history.specs.Marks.{mark_to}
 use Rattle.hc_history.specs.Right.{IsFinding}
@@ -13,7 +13,7 @@ abbrev pub item_judged : {I : Type 0} → JudgedReply I → Item
 item_judged judged = ClientReply judged.exchange judged.moment judged.reply
 
 abbrev pub item_passed : {I : Type 0} → PassedRecord I → Item
-item_passed passed = item_of passed.item.now
+item_passed passed = passed.item.now
 
 -- it is a reply
 abbrev pub is_reply : Item → Bool

@@ -9,7 +9,7 @@ use Rattle.hc_transcript.specs.declared.format.Format.{Format}
 use Rattle.hc_transcript.specs.declared.record.Record.{Record}
 use Rattle.hc_transcript.specs.Items.{Item}
 use Rattle.hc_transcript.specs.Limits.{longest_unfinished}
-use Rattle.hc_transcript.specs.Reader.{Agrees, HasItem, Lends, MeetsFault, Waits, format_read, reader_position, records_read, unread}
+use Rattle.hc_transcript.specs.Reader.{Agrees, HasItem, Lends, MeetsFault, Waits, format_read, octets_held, reader_position, records_read, unread}
 use Rattle.hc_history.specs.declared.settings.Settings.{Settings}
 use Rattle.hc_history.specs.declared.verdicts.Finding.{Finding}
 use Rattle.hc_history.specs.declared.verdicts.Finding.TheVariants as finding
@@ -40,9 +40,9 @@ pub record LendsNext {I : Type 0} (j : Judge I) : Type 0 where
   pub one_more : records_read j.reader ≡ counted + 1
   pub few : AreAtMost counted j.counts
 
--- where a record was read, the reader lends it, and less is unread; where none is whole, less is unread than a record
+-- where a record was read, the reader lends it, and less is unread; where none is whole, it holds less than a record
 abbrev pub MovesOn : {I : Type 0} → Result Next AllocError → Judge I → Judge I → Type 0
-MovesOn (Ok Waiting) old new = unread new.reader ≤ longest_unfinished
+MovesOn (Ok Waiting) old new = octets_held new.reader ≤ longest_unfinished
 MovesOn (Ok (One format)) old new = LendsNext new × (unread new.reader < unread old.reader)
 MovesOn (Ok (Broken position broken)) old new = Unit {0}
 MovesOn (Err e) old new = Unit {0}

@@ -5,7 +5,7 @@ use Rattle.hc_transcript.specs.declared.format.Format.{Format}
 use Rattle.hc_transcript.specs.declared.record.Record.{Record}
 use Rattle.hc_transcript.specs.Items.{Item}
 use Rattle.hc_transcript.specs.Transcript.{Splits}
-use Rattle.hc_transcript.specs.Reader.{Waits, format_read, unread}
+use Rattle.hc_transcript.specs.Reader.{Waits, format_read, octets_held}
 use Rattle.hc_history.specs.declared.reasons.Reason.{Reason}
 use Rattle.hc_history.specs.declared.settings.Settings.{Settings}
 use Rattle.hc_history.specs.declared.verdicts.Counts.{Counts}
@@ -90,7 +90,7 @@ ended survey = ended_by survey.reach
 
 -- how many octets wait to be judged: none where they have broken, or a fault was answered
 abbrev pub rest_by : {I : Type 0} → Reach I → ℕ
-rest_by (Open judge) = unread judge.reader
+rest_by (Open judge) = octets_held judge.reader
 rest_by (Ended ending) = 0
 rest_by Failed = 0
 

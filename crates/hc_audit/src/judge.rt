@@ -2,9 +2,9 @@
 
 ghost use Rattle.std.specs.Prelude.{◌≡◌, ◌<◌, ◌≤◌, ◌++◌, ◌∷◌, ℕ, List, [], IfOk, IfSome, IsSome, OnOk, Ok, None, false};
 ghost use Rattle.hc_transcript.specs.declared.format.Format.{Format};
-ghost use Rattle.hc_transcript.specs.Items.{Item, ClientReply, item_of};
+ghost use Rattle.hc_transcript.specs.Items.{Item, ClientReply};
 ghost use Rattle.hc_transcript.specs.Limits.{longest_unfinished};
-ghost use Rattle.hc_transcript.specs.Reader.{KeepsFormat, format_read, unread, records_read};
+ghost use Rattle.hc_transcript.specs.Reader.{KeepsFormat, format_read, octets_held, unread, records_read};
 ghost use Rattle.hc_history.specs.declared.settings.Settings.{Settings};
 ghost use Rattle.hc_history.specs.Counting.{AreAtMost};
 ghost use Rattle.hc_history.specs.Found.{AnswersOpen, IsFound};
@@ -18,7 +18,7 @@ use crate::next::{Next, next_behind};
 use crate::witness::{JudgedReply, PassedRecord};
 use hc_history::{Counts, Finding, Mark, MarkedReply, Settings, Verdict};
 use hc_index::Index;
-use hc_transcript::{Format, Meaning, OwnedItem, RecordReader};
+use hc_transcript::{Format, MeaningView, RecordReader, RecordView};
 use std::alloc::{AllocError, Global};
 
 /// What became of the next record.
@@ -59,9 +59,9 @@ impl<I: Index + Drop> Judge<I> {
         }
     }
 
-    /// How many octets wait to be judged.
+    /// How many octets it holds.
     pub(crate) fn rest(&self) -> usize
-        ensures { result ≡ unread self.now.reader }
+        ensures { result ≡ octets_held self.now.reader }
     {
         self.reader.rest()
     }
@@ -100,7 +100,7 @@ impl<I: Index + Drop> Judge<I> {
     }
 
     /// The record that was read last and is that item, where it is no reply.
-    pub(crate) fn passed<'a>(&'a self, item: &'a OwnedItem, format: Format) -> PassedRecord<'a, I>
+    pub(crate) fn passed<'a>(&'a self, item: &'a RecordView<'a>, format: Format) -> PassedRecord<'a, I>
         ensures position { result.position ≡ records_read self.now.reader }
         ensures format { result.format ≡ format }
         ensures item { result.item.now ≡ item.now }
@@ -117,20 +117,20 @@ impl<I: Index + Drop> Judge<I> {
     /// What is found of the record that was read last and is that item, where it is a reply.
     pub(crate) fn judged<'a>(
         &'a self,
-        item: &'a OwnedItem,
+        item: &'a RecordView<'a>,
         format: Format,
     ) -> Result<Option<JudgedReply<'a, I>>, AllocError>
         ensures position { IfOk result (λ judged. IfSome judged (λ reply. reply.position ≡ records_read self.now.reader)) }
         ensures finding { (h : List Item) → IsSeenAs format (I.seen self.now.index) h
-            → IfOk result (λ judged. IsFound format self.now.settings h (item_of item.now) (finding_told judged)) }
-        ensures mark { (h : List Item) → IsSeenAs format (I.seen self.now.index) h → AnswersOpen h (item_of item.now)
-            → IfOk result (λ judged. mark_told judged ≡ item_mark format self.now.settings h (item_of item.now)) }
-        ensures reply { IfOk result (λ judged. IfSome judged (λ reply. item_of item.now ≡ ClientReply reply.exchange reply.moment reply.reply)) }
+            → IfOk result (λ judged. IsFound format self.now.settings h item.now (finding_told judged)) }
+        ensures mark { (h : List Item) → IsSeenAs format (I.seen self.now.index) h → AnswersOpen h item.now
+            → IfOk result (λ judged. mark_told judged ≡ item_mark format self.now.settings h item.now) }
+        ensures reply { IfOk result (λ judged. IfSome judged (λ reply. item.now ≡ ClientReply reply.exchange reply.moment reply.reply)) }
         ensures known { IfOk result (λ judged. IfSome judged (λ reply.
             (reply.format ≡ format) × (reply.settings.now ≡ self.now.settings) × (reply.index.now ≡ self.now.index))) }
-        ensures none { IfOk result (λ judged. judged ≡ None → is_reply (item_of item.now) ≡ false) }
+        ensures none { IfOk result (λ judged. judged ≡ None → is_reply item.now ≡ false) }
     {
-        let Meaning::ClientReply(reply) = &item.of else {
+        let MeaningView::ClientReply(reply) = &item.of else {
             return Ok(None);
         };
         let reply = MarkedReply::read(self.alloc, reply)?;
@@ -174,8 +174,8 @@ impl<I: Index + Drop> Judge<I> {
     {
         let position = self.reader.records();
         self.counts.count(mark);
-        let item = self.reader.take_item();
-        self.index.note(position, item, format)?;
+        let view = self.reader.view();
+        self.index.note(position, &view, format)?;
         Ok(())
     }
 
@@ -184,7 +184,7 @@ impl<I: Index + Drop> Judge<I> {
     pub(crate) fn feed(&mut self, piece: &[u8]) -> Result<Option<Verdict>, AllocError>
         ensures gives { (settings : Settings) (octets : List ℕ) → IsWaiting I.seen self.old settings octets
             → GivesJudged I.seen result self.new settings (octets ++ piece.now) }
-        ensures rest { result ≡ Ok None → unread self.new.reader ≤ longest_unfinished }
+        ensures rest { result ≡ Ok None → octets_held self.new.reader ≤ longest_unfinished }
     {
         self.take(piece)?;
         self.judge_whole()
@@ -194,7 +194,7 @@ impl<I: Index + Drop> Judge<I> {
     fn judge_whole(&mut self) -> Result<Option<Verdict>, AllocError>
         ensures gives { (settings : Settings) (octets : List ℕ) → IsJudging I.seen self.old settings octets
             → GivesJudged I.seen result self.new settings octets }
-        ensures rest { result ≡ Ok None → unread self.new.reader ≤ longest_unfinished }
+        ensures rest { result ≡ Ok None → octets_held self.new.reader ≤ longest_unfinished }
     {
         'records: loop {
             match self.step()? {
@@ -210,7 +210,7 @@ impl<I: Index + Drop> Judge<I> {
         ensures gives { (settings : Settings) (octets : List ℕ) → IsJudging I.seen self.old settings octets
             → GivesStep I.seen result self.new settings octets }
         ensures shrinks { result ≡ Ok Step.Right → unread self.new.reader < unread self.old.reader }
-        ensures rest { result ≡ Ok Step.Waiting → unread self.new.reader ≤ longest_unfinished }
+        ensures rest { result ≡ Ok Step.Waiting → octets_held self.new.reader ≤ longest_unfinished }
     {
         let format = match self.advance()? {
             Next::Waiting => return Ok(Step::Waiting),
@@ -219,7 +219,10 @@ impl<I: Index + Drop> Judge<I> {
             }
             Next::Record(format) => format,
         };
-        let (finding, mark) = self.found(self.reader.item(), format)?;
+        let (finding, mark) = {
+            let view = self.reader.view();
+            self.found(&view, format)?
+        };
         if let Finding::Wrong(reason) = finding {
             return Ok(Step::Settled(Verdict::No(self.reader.records(), reason)));
         }
@@ -228,11 +231,11 @@ impl<I: Index + Drop> Judge<I> {
     }
 
     /// What is found of that item, which was read last, and its mark: that it is right, where it is no reply.
-    fn found(&self, item: &OwnedItem, format: Format) -> Result<(Finding, Option<Mark>), AllocError>
+    fn found(&self, item: &RecordView<'_>, format: Format) -> Result<(Finding, Option<Mark>), AllocError>
         ensures finding { (h : List Item) → IsSeenAs format (I.seen self.now.index) h
-            → IfOk result (λ found. IsFound format self.now.settings h (item_of item.now) found.0) }
-        ensures mark { (h : List Item) → IsSeenAs format (I.seen self.now.index) h → AnswersOpen h (item_of item.now)
-            → IfOk result (λ found. found.1 ≡ item_mark format self.now.settings h (item_of item.now)) }
+            → IfOk result (λ found. IsFound format self.now.settings h item.now found.0) }
+        ensures mark { (h : List Item) → IsSeenAs format (I.seen self.now.index) h → AnswersOpen h item.now
+            → IfOk result (λ found. found.1 ≡ item_mark format self.now.settings h item.now) }
     {
         let Some(judged) = self.judged(item, format)? else {
             return Ok((Finding::Right, None));

@@ -1,10 +1,10 @@
 //! The survey of records, one at a time.
 
 ghost use Rattle.std.specs.Prelude.{◌≡◌, ◌≤◌, ◌++◌, ◌∷◌, ℕ, List, IfOk, OnOk, Ok, None};
-ghost use Rattle.hc_transcript.specs.Items.{Item, item_of};
+ghost use Rattle.hc_transcript.specs.Items.{Item};
 ghost use Rattle.hc_transcript.specs.History.{next_position};
 ghost use Rattle.hc_transcript.specs.Limits.{longest_unfinished};
-ghost use Rattle.hc_transcript.specs.Reader.{records_read, unread};
+ghost use Rattle.hc_transcript.specs.Reader.{octets_held, records_read, unread};
 ghost use Rattle.hc_history.specs.declared.settings.Settings.{Settings};
 ghost use Rattle.hc_history.specs.declared.wrong.WrongReply.{WrongReply};
 ghost use Rattle.hc_history.specs.Found.{AnswersOpen};
@@ -20,7 +20,7 @@ use crate::next::Next;
 use crate::witness::Witness;
 use hc_history::{Ending, Mark};
 use hc_index::Index;
-use hc_transcript::{Format, OwnedItem};
+use hc_transcript::{Format, RecordView};
 use std::alloc::AllocError;
 
 impl<I: Index + Drop> Judge<I> {
@@ -34,7 +34,7 @@ impl<I: Index + Drop> Judge<I> {
         ensures gives { (settings : Settings) (octets : List ℕ)
             → IsToldOf (IsSurveyed I.seen self.old settings octets) (W.tells witness.old) (W.hears witness.old)
             → GivesSurveyed I.seen result self.new settings (octets ++ piece.now) (W.tells witness.new) (W.hears witness.new) }
-        ensures rest { result ≡ Ok None → unread self.new.reader ≤ longest_unfinished }
+        ensures rest { result ≡ Ok None → octets_held self.new.reader ≤ longest_unfinished }
     {
         self.take(piece)?;
         self.survey_whole(witness)
@@ -46,7 +46,7 @@ impl<I: Index + Drop> Judge<I> {
         ensures gives { (settings : Settings) (octets : List ℕ)
             → IsToldOf (IsSurveying I.seen self.old settings octets) (W.tells witness.old) (W.hears witness.old)
             → GivesSurveyed I.seen result self.new settings octets (W.tells witness.new) (W.hears witness.new) }
-        ensures rest { result ≡ Ok None → unread self.new.reader ≤ longest_unfinished }
+        ensures rest { result ≡ Ok None → octets_held self.new.reader ≤ longest_unfinished }
     {
         'records: loop {
             match self.advance()? {
@@ -65,7 +65,10 @@ impl<I: Index + Drop> Judge<I> {
             → OnOk result (IsToldOf (IsSurveying I.seen self.new settings octets) (W.tells witness.new) (W.hears witness.new)) }
         ensures unread { unread self.new.reader ≡ unread self.old.reader }
     {
-        let mark = self.tell(self.reader.item(), format, witness)?;
+        let mark = {
+            let view = self.reader.view();
+            self.tell(&view, format, witness)?
+        };
         self.note(format, mark)?;
         Ok(())
     }
@@ -74,18 +77,18 @@ impl<I: Index + Drop> Judge<I> {
     /// mark, if it is a reply.
     fn tell<W: Witness<I>>(
         &self,
-        item: &OwnedItem,
+        item: &RecordView<'_>,
         format: Format,
         witness: &mut W,
     ) -> Result<Option<Mark>, AllocError>
         ensures told { (h : List Item) (wrongs : List WrongReply) → IsSeenAs format (I.seen self.now.index) h → records_read self.now.reader ≡ next_position h
-            → AnswersOpen h (item_of item.now)
-            → W.tells witness.old wrongs → OnOk result (AreToldOf (GoOnBy format self.now.settings h (item_of item.now) wrongs) (W.tells witness.new)) }
+            → AnswersOpen h item.now
+            → W.tells witness.old wrongs → OnOk result (AreToldOf (GoOnBy format self.now.settings h item.now wrongs) (W.tells witness.new)) }
         ensures heard { (h : List Item) → IsSeenAs format (I.seen self.now.index) h → records_read self.now.reader ≡ next_position h
-            → AnswersOpen h (item_of item.now)
-            → W.hears witness.old h → OnOk result (W.hears witness.new (item_of item.now ∷ h)) }
-        ensures mark { (h : List Item) → IsSeenAs format (I.seen self.now.index) h → AnswersOpen h (item_of item.now)
-            → IfOk result (λ mark. mark ≡ item_mark format self.now.settings h (item_of item.now)) }
+            → AnswersOpen h item.now
+            → W.hears witness.old h → OnOk result (W.hears witness.new (item.now ∷ h)) }
+        ensures mark { (h : List Item) → IsSeenAs format (I.seen self.now.index) h → AnswersOpen h item.now
+            → IfOk result (λ mark. mark ≡ item_mark format self.now.settings h item.now) }
     {
         let Some(judged) = self.judged(item, format)? else {
             witness.pass(&self.passed(item, format))?;

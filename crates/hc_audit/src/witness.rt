@@ -8,7 +8,7 @@ ghost use Rattle.hc_audit.specs.Told.{wrong_of};
 
 use hc_history::{Candidate, Finding, Mark, MarkedReply, ReplyClaim, Settings};
 use hc_index::Index;
-use hc_transcript::{Format, OwnedItem};
+use hc_transcript::{Format, RecordView};
 use std::alloc::AllocError;
 
 /// A reply of a transcript, with what is found of it.
@@ -99,7 +99,7 @@ pub struct PassedRecord<'a, I> {
     /// The format of the transcript.
     pub format: Format,
     /// What it says.
-    pub item: &'a OwnedItem,
+    pub item: &'a RecordView<'a>,
     /// What is known of the records before it.
     pub index: &'a I,
 }

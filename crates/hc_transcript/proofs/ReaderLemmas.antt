@@ -292,9 +292,6 @@ shrinks_from old lacks n less = omega (arith, less, ap length (held_waits old la
 
 -- ---- what is left
 
-pub short_by_none : (r : RecordReader) → r.lent ≡ None → length r.held ≤ longest_unfinished → unread r ≤ longest_unfinished
-short_by_none r lacks short = omega (arith, short, ap length (held_waits r lacks))
-
 -- less than a record is left where none is whole
 pub unfinished_is_short : (format : Format) (s : Standing) (octets : List ℕ) → IsUnfinished format (standing_fault s) octets → length octets ≤ longest_unfinished
 unfinished_is_short format s octets (inl line) = omega (arith, line.short)

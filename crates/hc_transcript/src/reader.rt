@@ -59,7 +59,7 @@ impl Drop for RecordReader {
 }
 
 impl RecordReader {
-    ghost use Rattle.hc_transcript.specs.Reader.{Agrees, GivesAdvance, PositionsNext, HasFailed, HasNoFault, fault_met, HasItem, lent, waiting, CountsRecord, HasUnread, unread, octets_held, records_read, format_read, KeepsFormat, BeginsAs, reader_position};
+    ghost use Rattle.hc_transcript.specs.Reader.{Agrees, GivesAdvance, PositionsNext, HasFailed, HasNoFault, fault_met, HasItem, Lends, lent, waiting, CountsRecord, HasUnread, unread, octets_held, records_read, format_read, KeepsFormat, BeginsAs, reader_position};
     ghost use Rattle.hc_transcript.specs.ReaderParts.{is_whole_by, GivesOpening, KeepsRead};
 
     /// A reader that was given nothing.
@@ -112,7 +112,7 @@ impl RecordReader {
         ensures opened { result ≡ Ok true → IsSome (format_read self.new) }
         ensures gives_up { HasNoFault self.old → result ≢ Ok true → lent self.new ≡ None }
         ensures shrinks { result ≡ Ok true → unread self.new < unread self.old }
-        ensures waits { result ≡ Ok false → unread self.new ≤ longest_unfinished }
+        ensures waits { result ≡ Ok false → octets_held self.new ≤ longest_unfinished }
         ensures counted { CountsRecord result (records_read self.old) (records_read self.new) }
         ensures position { PositionsNext result self.old self.new }
         ensures format { KeepsFormat self.old self.new }
@@ -151,6 +151,7 @@ impl RecordReader {
     pub fn view(&self) -> RecordView<'_>
         requires { HasItem self.now }
         ensures lent { lent self.now ≡ Some result }
+        ensures item { (item : Item) → Lends self.now item → result ≡ item }
         ensures in_time { moment_of result ≤ greatest_moment }
     {
         let lent = self.lent.unwrap();
@@ -252,7 +253,7 @@ impl RecordReader {
         ensures opened { result ≡ Ok true → IsSome (format_read self.new) }
         ensures gives_up { result ≢ Ok true → lent self.new ≡ None }
         ensures shrinks { result ≡ Ok true → unread self.new < unread self.old }
-        ensures waits { result ≡ Ok false → unread self.new ≤ longest_unfinished }
+        ensures waits { result ≡ Ok false → octets_held self.new ≤ longest_unfinished }
         ensures counted { CountsRecord result (records_read self.old) (records_read self.new) }
         ensures position { PositionsNext result self.old self.new }
         ensures format { KeepsFormat self.old self.new }
@@ -300,7 +301,7 @@ impl RecordReader {
         ensures lends { result ≡ Ok true → HasItem self.new }
         ensures gives_up { result ≢ Ok true → lent self.new ≡ None }
         ensures shrinks { result ≡ Ok true → unread self.new < unread self.old }
-        ensures waits { result ≡ Ok false → unread self.new ≤ longest_unfinished }
+        ensures waits { result ≡ Ok false → octets_held self.new ≤ longest_unfinished }
         ensures counted { CountsRecord result (records_read self.old) (records_read self.new) }
         ensures format { self.new.format ≡ Some format }
         ensures fault { fault_met self.new ≡ fault_met self.old }

@@ -16,12 +16,12 @@ returns-clause-read g c = λ settings octets h a mark-is.
     let position : c.records-position.result ≡ next_position h = omega (arith, c.records-position.ensures.value, a.reads.stands.records) in
     record {
       records = a.one ∷ a.records;
-      reads = c.take_item-item.ensures.agrees octets (a.one ∷ a.records) (a.item ∷ h) a.reads;
-      index = of_the_read (λ (k : Format). IsSeenAs k (g.I.Index.seen c.note.new.self) (a.item ∷ h)) (format_read c.take_item-item.new.self) c.args.format
-          (c.take_item-item.ensures.format ∙ a.format_is)
-          (subst (λ (i : Item). IsSeenAs c.args.format (g.I.Index.seen c.note.new.self) (i ∷ h)) (c.take_item-item.ensures.item a.item a.lends) (c.in_ok-note.ensures h position a.index));
-      counts = of_the_read (λ (k : Format). c.count.new.self ≡ counts_of k settings (a.item ∷ h)) (format_read c.take_item-item.new.self) c.args.format
-          (c.take_item-item.ensures.format ∙ a.format_is)
+      reads = a.reads;
+      index = of_the_read (λ (k : Format). IsSeenAs k (g.I.Index.seen c.note.new.self) (a.item ∷ h)) (format_read c.args.self.now.reader) c.args.format
+          a.format_is
+          (subst (λ (i : Item). IsSeenAs c.args.format (g.I.Index.seen c.note.new.self) (i ∷ h)) (c.view.ensures.item a.item a.lends) (c.in_ok-note.ensures h position a.index));
+      counts = of_the_read (λ (k : Format). c.count.new.self ≡ counts_of k settings (a.item ∷ h)) (format_read c.args.self.now.reader) c.args.format
+          a.format_is
           (c.count.ensures
           ∙ ap (λ (m : Option Mark). marked m (one_more c.args.self.now.counts)) mark-is
           ∙ ap (λ (n : Counts). marked (item_mark c.args.format settings h a.item) (one_more n)) a.counts);

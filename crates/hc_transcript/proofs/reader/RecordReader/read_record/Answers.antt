@@ -1,6 +1,6 @@
 use Rattle.std.proofs.Common.{refl}
 use Rattle.hc_transcript.proofs.CheckLemmas.{in_time, item_can_follow}
-use Rattle.hc_transcript.proofs.ReaderLemmas.{unfinished_is_short, short_by_none, stops_by_line, stops_by_item, waits_on, advances, shrinks, shrinks_from}
+use Rattle.hc_transcript.proofs.ReaderLemmas.{unfinished_is_short, stops_by_line, stops_by_item, waits_on, advances, shrinks, shrinks_from}
 use Rattle.hc_transcript.specs.Standing.{standing_fault}
 use Rattle.hc_transcript.proofs.reader.RecordReader.read_record.Goals as goal
 
@@ -18,8 +18,7 @@ returns-in-Ok-None-clause-gives c = λ octets records h agrees.
 
 pub returns-in-Ok-None-clause-waits : goal.returns-in-Ok-None-clause-waits
 returns-in-Ok-None-clause-waits c = λ read.
-    short_by_none c.args.self.now c.requires.lent
-    (unfinished_is_short c.args.format c.args.self.now.standing c.args.self.now.held (rw (c.as_slice.ensures, c.in-Ok-None.field-0-is) at c.in-Ok-None.ensures))
+    unfinished_is_short c.args.format c.args.self.now.standing c.args.self.now.held (rw (c.as_slice.ensures, c.in-Ok-None.field-0-is) at c.in-Ok-None.ensures)
 
 pub returns-in-Err-find-clause-gives : goal.returns-in-Err-find-clause-gives
 returns-in-Err-find-clause-gives c = λ octets records h agrees other.
