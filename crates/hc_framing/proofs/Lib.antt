@@ -1,6 +1,7 @@
 pub mod ChunkLemmas
 pub mod BodyLemmas
 pub mod PieceLemmas
+pub mod OrderLemmas
 pub mod NotingLemmas
 pub mod FramingLemmas
 pub mod ReaderLemmas

@@ -1,8 +1,8 @@
 //! Bodies that are lent in pieces.
 
-ghost use Rattle.std.specs.Prelude.{◌≡◌, ◌++◌, IfOk, OnOk, Decides};
+ghost use Rattle.std.specs.Prelude.{◌≡◌, ◌==◌, ◌≤◌, ◌++◌, length, IfOk, OnOk, Decides};
 ghost use Rattle.std.specs.List.{flat_map};
-ghost use Rattle.hc_framing.specs.Pieces.{piece_at};
+ghost use Rattle.hc_framing.specs.Pieces.{AreInOrder, piece_at};
 
 use hc_fields::Octets;
 use std::alloc::{AllocError, Global};
@@ -29,11 +29,13 @@ pub struct BodyView<'a> {
 impl<'a> Model for BodyView<'a> {
     ghost use Rattle.std.specs.Prelude.{List, ℕ, ◌++◌};
     ghost use Rattle.std.specs.List.{flat_map};
-    ghost use Rattle.hc_framing.specs.Pieces.{piece_at};
+    ghost use Rattle.hc_framing.specs.Pieces.{AreInOrder, piece_at};
 
     ghost Value = { List ℕ };
 
     ghost view = { λ b. b.one.now ++ flat_map (piece_at b.octets.now) b.pieces.now };
+
+    ghost invariant = { λ b. AreInOrder 0 b.pieces.now };
 }
 
 /// The octets of a piece.
@@ -41,6 +43,19 @@ fn octets_at(octets: &[u8], at: Piece) -> &[u8]
     ensures { result.now ≡ piece_at octets.now at }
 {
     hc_fields::piece(octets, at.start as usize, at.len as usize)
+}
+
+/// How many octets the pieces have together. As they share none, these are no more than there are.
+fn pieces_len(octets: &[u8], pieces: &[Piece]) -> usize
+    requires { AreInOrder 0 pieces.now }
+    ensures is { result ≡ length (flat_map (piece_at octets.now) pieces.now) }
+    ensures few { result ≤ length octets.now }
+{
+    let mut total = 0;
+    for at in pieces {
+        total += octets_at(octets, *at).len();
+    }
+    total
 }
 
 /// Whether the octets are those of the pieces, one behind another.
@@ -79,8 +94,9 @@ impl<'a> BodyView<'a> {
         }
     }
 
-    /// A body that lies in pieces of octets.
+    /// A body that lies in pieces of octets, which are in order and share none of them.
     pub fn at(octets: &'a [u8], pieces: &'a [Piece]) -> Self
+        requires { AreInOrder 0 pieces.now }
         ensures { result ≡ flat_map (piece_at octets.now) pieces.now }
     {
         BodyView {
@@ -99,6 +115,20 @@ impl<'a> BodyView<'a> {
             octets: self.octets,
             pieces: self.pieces,
         }
+    }
+
+    /// How many octets the body has.
+    pub fn len(&self) -> usize
+        ensures { result ≡ length self.now }
+    {
+        self.one.len() + pieces_len(self.octets, self.pieces)
+    }
+
+    /// Whether the body has no octets.
+    pub fn is_empty(&self) -> bool
+        ensures { result ≡ (length self.now == 0) }
+    {
+        self.len() == 0
     }
 
     /// Whether the body has these octets.

@@ -1,10 +1,10 @@
 //! Where the octets of a body stand among those of its framing.
 
-ghost use Rattle.std.specs.Prelude.{◌≡◌, ℕ, ◌++◌, List, [], drop, true, OnOk, IfErr};
+ghost use Rattle.std.specs.Prelude.{◌≡◌, ℕ, ◌+◌, ◌≤◌, ◌++◌, List, [], drop, true, OnOk, IfErr};
 ghost use Rattle.std.specs.List.{flat_map};
 ghost use Rattle.hc_fields.specs.Views.{piece};
 ghost use Rattle.hc_framing.specs.Bodies.{has_octets};
-ghost use Rattle.hc_framing.specs.Pieces.{piece_at};
+ghost use Rattle.hc_framing.specs.Pieces.{AreInOrder, end_of, piece_at};
 ghost use Rattle.hc_framing.specs.WholeParts.{noted, GivesWholeBody};
 
 use crate::body::has_octets;
@@ -14,11 +14,16 @@ use crate::framing::Framing;
 use crate::framing_reader::FramingReader;
 use std::alloc::Global;
 
-/// Notes one piece more, unless it has no octets. One that 32 bits can't tell is the fault `Memory`.
+/// Notes one piece more, behind the others, unless it has no octets. One that 32 bits can't tell is the fault
+/// `Memory`.
 fn note_piece(pieces: &mut Vec<Piece>, start: usize, len: usize) -> Result<(), FrameFault>
+    requires ordered { AreInOrder 0 pieces.old.items }
+    requires behind { end_of 0 pieces.old.items ≤ start }
     ensures ok { OnOk result ((octets : List ℕ) → flat_map (piece_at octets) pieces.new.items
         ≡ flat_map (piece_at octets) pieces.old.items ++ piece octets start len) }
     ensures err { IfErr result (λ fault. fault ≡ FrameFault.Memory) }
+    ensures ordered { AreInOrder 0 pieces.new.items }
+    ensures within { end_of 0 pieces.new.items ≤ start + len }
 {
     if len == 0 {
         return Ok(());
@@ -32,7 +37,7 @@ fn note_piece(pieces: &mut Vec<Piece>, start: usize, len: usize) -> Result<(), F
     }
 }
 
-/// Notes the pieces of a body that has octets of its own.
+/// Notes the pieces of a body that has octets of its own, in their order.
 fn note_parts(
     alloc: Global,
     pieces: &mut Vec<Piece>,
@@ -42,7 +47,9 @@ fn note_parts(
 ) -> Result<(), FrameFault>
     requires some { has_octets framing ≡ true }
     requires none { pieces.old.items ≡ [] }
-    ensures { GivesWholeBody (noted result (flat_map (piece_at octets.now) pieces.new.items)) framing (drop from octets.now) }
+    ensures gives { GivesWholeBody (noted result (flat_map (piece_at octets.now) pieces.new.items)) framing
+        (drop from octets.now) }
+    ensures ordered { AreInOrder 0 pieces.new.items }
 {
     let mut reader = FramingReader::new(alloc, framing);
     let mut at = from;
@@ -67,7 +74,8 @@ fn note_parts(
 }
 
 /// Notes in place of the pieces where the octets of a body stand, if the octets from a place on are all of a
-/// body that is framed so. A place that 32 bits can't tell is the fault `Memory`.
+/// body that is framed so. The pieces are in order, after a fault too. A place that 32 bits can't tell is the fault
+/// `Memory`.
 pub(crate) fn note_body(
     alloc: Global,
     pieces: &mut Vec<Piece>,
@@ -75,7 +83,9 @@ pub(crate) fn note_body(
     octets: &[u8],
     from: usize,
 ) -> Result<(), FrameFault>
-    ensures { GivesWholeBody (noted result (flat_map (piece_at octets.now) pieces.new.items)) framing (drop from octets.now) }
+    ensures gives { GivesWholeBody (noted result (flat_map (piece_at octets.now) pieces.new.items)) framing
+        (drop from octets.now) }
+    ensures ordered { AreInOrder 0 pieces.new.items }
 {
     pieces.clear();
     if has_octets(framing) {

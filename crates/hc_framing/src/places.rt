@@ -1,9 +1,6 @@
 //! Messages that are read where they lie.
 
-ghost use Rattle.std.specs.Prelude.{◌≡◌};
-ghost use Rattle.hc_framing.specs.Faults.{GivesMessage};
-ghost use Rattle.hc_framing.specs.Places.{message_at};
-ghost use Rattle.hc_framing.specs.WholeParts.{noted};
+ghost use Rattle.hc_framing.specs.Pieces.{AreInOrder, AreInOrder-prop};
 
 use crate::body_view::{BodyView, Piece};
 use crate::fault::FrameFault;
@@ -20,29 +17,8 @@ pub struct Places {
     alloc: Global,
     head: HeadPlaces,
     pieces: Vec<Piece>,
-}
-
-/// Finds where the parts stand of the message that the octets are, all of them.
-fn find<H: MessageHead>(
-    places: &mut Places,
-    octets: &[u8],
-    kind: Kind,
-    room: Room,
-) -> Result<(), FrameFault>
-    ensures { GivesMessage H.form kind (noted result (message_at H.at places.new octets.now)) octets.now room }
-{
-    match H::find(&mut places.head, octets, room) {
-        Err(fault) => Err(head_fault(fault)),
-        Ok(None) => Err(FrameFault::Truncated),
-        Ok(Some(len)) => {
-            let framing = match H::framing_at(&places.head, octets, kind) {
-                Err(fault) => return Err(fault),
-                Ok(framing) => framing,
-            };
-            H::make_bare(&mut places.head);
-            note_body(places.alloc, &mut places.pieces, framing, octets, len)
-        }
-    }
+    // Each piece begins where the one before it ends, or behind that.
+    ghost ordered: { AreInOrder 0 pieces.items } by { AreInOrder-prop 0 pieces.items },
 }
 
 impl Places {
@@ -51,8 +27,8 @@ impl Places {
     ghost use Rattle.hc_head.specs.declared.head.ResponseHead.{ResponseHead};
     ghost use Rattle.hc_head.specs.declared.head.Room.{Room};
     ghost use Rattle.hc_framing.specs.declared.message.Message.{Message};
-    ghost use Rattle.hc_framing.specs.Faults.{FindsMessage, GivesRequest, GivesResponse, IsWholeRequest, IsWholeResponse};
-    ghost use Rattle.hc_framing.specs.Places.{request_at, response_at};
+    ghost use Rattle.hc_framing.specs.Faults.{FindsMessage, GivesMessage, GivesRequest, GivesResponse, IsWholeRequest, IsWholeResponse};
+    ghost use Rattle.hc_framing.specs.Places.{message_at, request_at, response_at};
     ghost use Rattle.hc_framing.specs.WholeParts.{noted};
 
     /// Places that no message was found for. They take no memory until one is looked for.
@@ -61,6 +37,29 @@ impl Places {
             alloc,
             head: HeadPlaces::new(alloc),
             pieces: Vec::new(alloc),
+        }
+    }
+
+    /// Finds where the parts stand of the message that the octets are, all of them.
+    fn find<H: MessageHead>(
+        &mut self,
+        octets: &[u8],
+        kind: Kind,
+        room: Room,
+    ) -> Result<(), FrameFault>
+        ensures { GivesMessage H.form kind (noted result (message_at H.at self.new octets.now)) octets.now room }
+    {
+        match H::find(&mut self.head, octets, room) {
+            Err(fault) => Err(head_fault(fault)),
+            Ok(None) => Err(FrameFault::Truncated),
+            Ok(Some(len)) => {
+                let framing = match H::framing_at(&self.head, octets, kind) {
+                    Err(fault) => return Err(fault),
+                    Ok(framing) => framing,
+                };
+                H::make_bare(&mut self.head);
+                note_body(self.alloc, &mut self.pieces, framing, octets, len)
+            }
         }
     }
 
@@ -73,7 +72,7 @@ impl Places {
         ensures found { (message : Message RequestHead) → IsWholeRequest octets.now Room.RECORDED message
             → FindsMessage (noted result (request_at self.new octets.now)) message }
     {
-        find::<RequestHead>(self, octets, Kind::Request, Room::RECORDED)
+        self.find::<RequestHead>(octets, Kind::Request, Room::RECORDED)
     }
 
     /// The same of a response; `to_head` tells whether it answers HEAD.
@@ -84,7 +83,7 @@ impl Places {
         ensures found { (message : Message ResponseHead) → IsWholeResponse to_head octets.now Room.RECORDED message
             → FindsMessage (noted result (response_at self.new octets.now)) message }
     {
-        find::<ResponseHead>(self, octets, Kind::Response { to_head }, Room::RECORDED)
+        self.find::<ResponseHead>(octets, Kind::Response { to_head }, Room::RECORDED)
     }
 
     /// The request that stands there in the octets.

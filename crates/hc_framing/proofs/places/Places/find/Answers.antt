@@ -1,11 +1,11 @@
-use Rattle.std.proofs.Common.{List, ℕ, ◌∙◌, Result, Ok, Err, drop, refl, sym, subst}
+use Rattle.std.proofs.Common.{◌∙◌, Result, Err, drop, refl, sym, subst}
 use Rattle.std.specs.List.{flat_map}
 use Rattle.hc_framing.specs.declared.fault.FrameFault.{FrameFault}
 use Rattle.hc_framing.specs.declared.framing.Framing.{Framing}
 use Rattle.hc_framing.specs.Pieces.{piece_at}
 use Rattle.hc_framing.specs.WholeParts.{GivesBehind, noted}
 use Rattle.hc_framing.proofs.WholeLemmas.{behind_head, framed_noted}
-use Rattle.hc_framing.proofs.places.find.Goals as goal
+use Rattle.hc_framing.proofs.places.Places.find.Goals as goal
 
 pub returns-in-Err-framing_at : goal.returns-in-Err-framing_at
 returns-in-Err-framing_at g c =
@@ -27,4 +27,4 @@ returns-in-Ok g c =
     (rw c.in-Ok-Some.field-0-is at c.in-Ok-Some.ensures.gives)
     (subst (λ (r : Result Framing FrameFault). GivesBehind form r head (noted c.note_body.result (record { head = bare; body = body })) (drop c.in-Ok-Some.len octets))
     (sym c.in-Ok.is ∙ c.framing_at.ensures)
-    (framed_noted form g.met.H.MessageHead.laws c.in-Ok.framing head bare c.note_body.result body (drop c.in-Ok-Some.len octets) (c.make_bare.ensures octets) c.note_body.ensures))
+    (framed_noted form g.met.H.MessageHead.laws c.in-Ok.framing head bare c.note_body.result body (drop c.in-Ok-Some.len octets) (c.make_bare.ensures octets) c.note_body.ensures.gives))
