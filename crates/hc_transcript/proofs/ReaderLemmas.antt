@@ -246,6 +246,12 @@ advances old new format octets records h l message len to_head is lacks agrees f
     record {
       one = one;
       item = item;
+      format = format;
+      format_is = is';
+      text_is =
+          (λ i. take (lent_len (lent-is i)) (held-is i))
+          ∙ (λ i. take (record_len format one l message len line-is message-is framed.size_is framed.len_is i) ((framed.octets_are ∙ text_is format one l message framed.rest line-is message-is) i))
+          ∙ take-append_seam (record_text format one) framed.rest;
       agrees = record {
         unfailed = fault-is ∙ agrees.unfailed;
         reads = subst (λ (o : Option Format). ReadsTo o octets (one ∷ records) (item ∷ h) (waiting new)) (sym is') whole;

@@ -1,5 +1,5 @@
 -- A reader of records, and the octets that it was given.
-use Rattle.std.specs.Prelude.{◌≡◌, ◌≢◌, ℕ, ◌+◌, ◌⊎◌, Bool, true, false, List, [], ◌∷◌, ◌++◌, length, drop, Option, Some, None, Result, Ok, Err, IsSome}
+use Rattle.std.specs.Prelude.{◌≡◌, ◌≢◌, ℕ, ◌+◌, ◌⊎◌, Bool, true, false, List, [], ◌∷◌, ◌++◌, length, take, drop, Option, Some, None, Result, Ok, Err, IsSome}
 use Rattle.hc_transcript.specs.declared.fault.RecordFault.{RecordFault}
 use Rattle.hc_transcript.specs.declared.fault.RecordFault.TheVariants as fault
 use Rattle.hc_transcript.specs.declared.format.Format.{Format}
@@ -8,7 +8,7 @@ use Rattle.hc_transcript.specs.declared.record.Record.{Record}
 use Rattle.hc_transcript.specs.Items.{Item}
 use Rattle.hc_transcript.specs.Lending.{lent_len, lent_item}
 use Rattle.hc_transcript.specs.History.{next_position}
-use Rattle.hc_transcript.specs.Records.{opening}
+use Rattle.hc_transcript.specs.Records.{opening, record_text}
 use Rattle.hc_transcript.specs.Checks.{line_fault}
 use Rattle.hc_transcript.specs.Transcript.{Splits}
 use Rattle.hc_transcript.specs.Malformed.{HasNoOpening, IsUnfinishedOpening, IsUnfinished, BreaksAfter}
@@ -82,6 +82,10 @@ HasItem r = IsSome (lent r)
 abbrev pub Lends : RecordReader → Item → Type 0
 Lends r item = lent r ≡ Some item
 
+-- the octets of the record that the reader lends
+abbrev pub text_lent : RecordReader → List ℕ
+text_lent r = take (lent_len r.lent) r.held
+
 -- the fault that the reader has met, which it answers for ever
 abbrev pub fault_met : RecordReader → Option RecordFault
 fault_met r = r.fault
@@ -116,12 +120,15 @@ MeetsFault r octets h f =
 abbrev pub KeepsFormat : RecordReader → RecordReader → Type 0
 KeepsFormat old new = (format : Format) → format_read old ≡ Some format → format_read new ≡ Some format
 
--- one record more
+-- one record more, which is lent
 pub record Advances (r : RecordReader) (octets : List ℕ) (records : List Record) (h : List Item) : Type 0 where
   pub one : Record
   pub item : Item
+  pub format : Format
   pub agrees : Agrees r octets (one ∷ records) (item ∷ h)
   pub lends : Lends r item
+  pub format_is : format_read r ≡ Some format
+  pub text_is : text_lent r ≡ record_text format one
 
 -- the position stays, or is that of the record behind those that were read; it is that where one was read
 abbrev pub PositionsNext : Result Bool RecordFault → RecordReader → RecordReader → Type 0

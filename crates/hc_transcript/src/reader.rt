@@ -59,7 +59,7 @@ impl Drop for RecordReader {
 }
 
 impl RecordReader {
-    ghost use Rattle.hc_transcript.specs.Reader.{Agrees, GivesAdvance, PositionsNext, HasFailed, HasNoFault, fault_met, HasItem, Lends, lent, waiting, CountsRecord, HasUnread, unread, octets_held, records_read, format_read, KeepsFormat, BeginsAs, reader_position};
+    ghost use Rattle.hc_transcript.specs.Reader.{Agrees, GivesAdvance, PositionsNext, HasFailed, HasNoFault, fault_met, HasItem, Lends, lent, text_lent, waiting, CountsRecord, HasUnread, unread, octets_held, records_read, format_read, KeepsFormat, BeginsAs, reader_position};
     ghost use Rattle.hc_transcript.specs.ReaderParts.{is_whole_by, GivesOpening, KeepsRead};
 
     /// A reader that was given nothing.
@@ -157,6 +157,20 @@ impl RecordReader {
         let lent = self.lent.unwrap();
         let message = piece(self.held.as_slice(), lent.start, lent.line.size as usize);
         self.places.record(&lent.line, message)
+    }
+
+    /// The octets of the record that was read last: its line, its message and its last line feed.
+    pub fn text(&self) -> &[u8]
+        ensures { result.now ≡ text_lent self.now }
+    {
+        let held = self.held.as_slice();
+        match self.lent {
+            None => &[],
+            Some(lent) => {
+                let (text, _) = held.split_at(lent.len);
+                text
+            }
+        }
     }
 
     /// The octets that wait behind those that are lent.
