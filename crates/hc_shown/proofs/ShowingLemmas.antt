@@ -11,7 +11,7 @@ use Rattle.hc_transcript.specs.Items.{Item}
 use Rattle.hc_transcript.specs.History.{next_position}
 use Rattle.hc_transcript.specs.Transcript.{IsTranscript}
 use Rattle.hc_transcript.specs.Malformed.{IsUnfinishedOpening}
-use Rattle.hc_transcript.specs.Reader.{Agrees, HasFailed, HasUnread, HasUnreadBy, MeetsFault, ReadsTo, Waits, WaitsBy, format_read, position_by, reader_position, records_read}
+use Rattle.hc_transcript.specs.Reader.{Agrees, HasFailed, HasUnread, HasUnreadBy, MeetsFault, ReadsTo, Waits, WaitsBy, format_read, position_by, reader_position, records_read, waiting}
 use Rattle.hc_shown.specs.declared.showing.Showing.{Showing}
 use Rattle.hc_shown.specs.declared.span.Span.{Span}
 use Rattle.hc_shown.specs.Shown.{AddsIf, AreShown, is_within}
@@ -29,7 +29,7 @@ some_opening e = cc
 pub fresh_waits : (r : RecordReader) → Agrees r [] [] [] → Waits r []
 fresh_waits r agrees = go r.format agrees.reads
   where
-    go : (o : Option Format) → ReadsTo o [] [] [] r.held → WaitsBy o [] r.held
+    go : (o : Option Format) → ReadsTo o [] [] [] (waiting r) → WaitsBy o [] (waiting r)
     go None reads = subst (λ (held : List ℕ). IsUnfinishedOpening held) reads.1.1 (First, opening First, refl, some_opening)
     go (Some format) reads = absurd (no_opening_yet format _ reads.octets_are)
 
@@ -58,13 +58,13 @@ nothing_more P text old holds = ([], sym (append-nil old), subst P (sym (append-
 pub all_of : (s : Showing) (span : Span) (octets text : List ℕ) → HasShown s span octets text → span.last ≤ records_read s.reader → ShowsAll span octets text
 all_of s span octets text has least = go s.reader.format has.agrees.reads
   where
-    go : (o : Option Format) → ReadsTo o octets has.records has.history s.reader.held → ShowsAll span octets text
+    go : (o : Option Format) → ReadsTo o octets has.records has.history (waiting s.reader) → ShowsAll span octets text
     go None reads = absurd (omega (arith, has.agrees.stands.records, ap length reads.1.0, has.some, least))
     go (Some format) reads = record {
       format = format;
       records = has.records;
       history = has.history;
-      rest = s.reader.held;
+      rest = waiting s.reader;
       splits = reads;
       all = omega (arith, has.agrees.stands.records, has.no_more, least);
       shown = has.shown;
@@ -90,7 +90,7 @@ pub met_before : (r s : RecordReader) (span : Span) (octets text : List ℕ) (re
 met_before r s span octets text records h f position agrees keeps shown fewer (inl begins) is = record {
   history = h;
   shown = shown;
-  breaks = inl (is ∙ begins.1.1.1, (none_before (format_read r) octets r.held records h agrees.reads (was_none (format_read r) (format_read s) keeps begins.1.1.0), inl (begins.0, begins.1.0)));
+  breaks = inl (is ∙ begins.1.1.1, (none_before (format_read r) octets (waiting r) records h agrees.reads (was_none (format_read r) (format_read s) keeps begins.1.1.0), inl (begins.0, begins.1.0)));
 }
 met_before r s span octets text records h f position agrees keeps shown fewer (inr behind) is = record {
   history = h;
@@ -118,7 +118,7 @@ torn_of : (r : RecordReader) (span : Span) (octets text : List ℕ) (records : L
     → AreShown span h text → length h < span.last → ShowsBefore span octets text (reader_position r) fault.Torn
 torn_of r span octets text records h agrees waits unread shown fewer = go r.format agrees.reads waits unread
   where
-    go : (o : Option Format) → ReadsTo o octets records h r.held → WaitsBy o h r.held → HasUnreadBy o r.held
+    go : (o : Option Format) → ReadsTo o octets records h (waiting r) → WaitsBy o h (waiting r) → HasUnreadBy o (waiting r)
         → ShowsBefore span octets text (position_by o r.standing.records) fault.Torn
     go None reads waits unread = record {
       history = h;
@@ -132,7 +132,7 @@ torn_of r span octets text records h agrees waits unread shown fewer = go r.form
         format,
         ap (λ (n : ℕ). n + 1) agrees.stands.records,
         rw agrees.stands.records (omega (arith, fewer)),
-        inr (refl, record { records = records; rest = r.held; splits = reads; some = unread; torn = waits }),
+        inr (refl, record { records = records; rest = waiting r; splits = reads; some = unread; torn = waits }),
       );
     }
 

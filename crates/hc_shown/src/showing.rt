@@ -106,7 +106,8 @@ impl Showing {
         if !self.span.contains(position) {
             return Ok(());
         }
-        push_record(position, self.reader.item(), out)
+        let item = self.reader.view().copy(*out.allocator())?;
+        push_record(position, &item, out)
     }
 
     /// How all octets that were fed end, where the last position hasn't come.
