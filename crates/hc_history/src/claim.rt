@@ -4,8 +4,9 @@ ghost use Rattle.std.specs.Prelude.{◌≡◌};
 ghost use Rattle.hc_history.specs.Claims.{asks_head, ttl_of};
 
 use crate::settings::Settings;
-use hc_framing::Message;
-use hc_head::{RequestHead, ResponseHead, Target, is_head};
+use hc_fields::FieldsView;
+use hc_framing::{BodyView, ResponseView};
+use hc_head::{RequestHead, StatusCode, Target, is_head};
 use hc_status::Mark;
 use hc_transcript::Format;
 use std::marker::Model;
@@ -24,7 +25,7 @@ pub struct ReplyClaim<'a> {
     /// The position of the request, after which the window begins.
     pub since: u64,
     /// The reply.
-    pub reply: &'a Message<ResponseHead>,
+    pub reply: &'a ResponseView<'a>,
     /// The moment of the reply.
     pub moment: u64,
     /// Whether the mark by which it is judged is inferred.
@@ -58,6 +59,32 @@ impl<'a> Model for ReplyClaim<'a> {
       has_failure = c.has_failure;
       settings = c.settings.now;
     } };
+}
+
+impl<'a> ReplyClaim<'a> {
+    /// The status of the reply.
+    pub fn status(&self) -> StatusCode
+        ensures { result ≡ self.now.reply.head.status }
+    {
+        let reply = self.reply;
+        reply.head.status
+    }
+
+    /// The fields of the reply.
+    pub fn fields(&self) -> &'a FieldsView<'a>
+        ensures { result.now ≡ self.now.reply.head.fields }
+    {
+        let reply = self.reply;
+        &reply.head.fields
+    }
+
+    /// The body of the reply.
+    pub fn body(&self) -> &'a BodyView<'a>
+        ensures { result.now ≡ self.now.reply.body }
+    {
+        let reply = self.reply;
+        &reply.body
+    }
 }
 
 /// Whether the request is HEAD.

@@ -10,7 +10,7 @@ ghost use Rattle.hc_history.specs.Allowing.{has_allowed_fields, has_its_values, 
 ghost use Rattle.hc_history.specs.Filters.{is_exempt, rewritten_names, same_values};
 
 use crate::claim::ReplyClaim;
-use hc_fields::{Fields, is_among};
+use hc_fields::{FieldsView, Lines, is_among};
 use hc_head::StatusCode;
 use hc_rules::REPEATED_NAMES;
 use hc_update::Stored;
@@ -34,7 +34,7 @@ const OF_CONTENT: [&[u8]; 7] = [
 pub(crate) fn is_not_modified(claim: &ReplyClaim<'_>) -> bool
     ensures { result ≡ (claim.now.reply.head.status == not_modified) }
 {
-    claim.reply.head.status == StatusCode::NOT_MODIFIED
+    claim.status() == StatusCode::NOT_MODIFIED
 }
 
 fn is_rewritten(name: &[u8]) -> bool
@@ -47,13 +47,13 @@ fn is_rewritten(name: &[u8]) -> bool
 fn is_exempt(claim: &ReplyClaim<'_>, name: &[u8]) -> bool
     ensures { result ≡ is_exempt claim.now name.now }
 {
-    claim.reply.head.fields.left_out_of_store(name)
+    claim.fields().left_out_of_store(name)
         || is_rewritten(name)
         || claim.settings.ignored.contains(name)
 }
 
 /// Whether both have the same list of values of a name.
-fn same_values(one: &Fields, other: &Fields, name: &[u8]) -> bool
+fn same_values(one: &FieldsView<'_>, other: &FieldsView<'_>, name: &[u8]) -> bool
     ensures { result ≡ same_values one.now other.now name.now }
 {
     let mut others = other.values(name);
@@ -80,7 +80,12 @@ fn may_be_added(claim: &ReplyClaim<'_>, state: &Stored, name: &[u8]) -> bool
 }
 
 /// Whether both have the same values of a name where each side's lines are joined.
-fn same_joined(alloc: Global, one: &Fields, other: &Fields, name: &[u8]) -> Result<bool, AllocError>
+fn same_joined(
+    alloc: Global,
+    one: &FieldsView<'_>,
+    other: &FieldsView<'_>,
+    name: &[u8],
+) -> Result<bool, AllocError>
     ensures { IfOk result (λ same. same
         ≡ option_eq bytes_eq (joined_values (values_of name.now one.now)) (joined_values (values_of name.now other.now))) }
 {
@@ -106,7 +111,7 @@ fn is_joined(
     {
         return Ok(false);
     }
-    same_joined(alloc, &claim.reply.head.fields, &state.fields, name)
+    same_joined(alloc, claim.fields(), &state.fields.lent(), name)
 }
 
 /// Whether a name isn't compared, or the reply has the values that the stored response has of it, or what is
@@ -120,7 +125,7 @@ fn has_its_values(
     ensures { IfOk result (λ has. has ≡ has_its_values claim.now state.now name.now) }
 {
     if is_exempt(claim, name)
-        || same_values(&claim.reply.head.fields, &state.fields, name)
+        || same_values(claim.fields(), &state.fields.lent(), name)
         || may_be_added(claim, state, name)
     {
         return Ok(true);
@@ -147,12 +152,13 @@ fn has_its_lines(
     alloc: Global,
     claim: &ReplyClaim<'_>,
     state: &Stored,
-    fields: &Fields,
+    fields: &FieldsView<'_>,
 ) -> Result<bool, AllocError>
     ensures { IfOk result (λ has. has ≡ list_all (λ line. has_its_values claim.now state.now line.name) fields.now) }
 {
-    for line in fields.lines() {
-        if !has_its_values(alloc, claim, state, line.name.as_slice())? {
+    let mut rest = fields.again();
+    while let Some((name, _)) = rest.pass() {
+        if !has_its_values(alloc, claim, state, name)? {
             return Ok(false);
         }
     }
@@ -186,13 +192,13 @@ pub(crate) fn has_allowed_fields(
 ) -> Result<bool, AllocError>
     ensures { IfOk result (λ has. has ≡ has_allowed_fields claim.now state.now) }
 {
-    let has = has_its_lines(alloc, claim, state, &claim.reply.head.fields)?;
+    let has = has_its_lines(alloc, claim, state, claim.fields())?;
     if !has {
         return Ok(false);
     }
     if is_not_modified(claim) {
         has_each(alloc, claim, state, &REPEATED_NAMES)
     } else {
-        has_its_lines(alloc, claim, state, &state.fields)
+        has_its_lines(alloc, claim, state, &state.fields.lent())
     }
 }

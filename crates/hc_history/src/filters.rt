@@ -47,9 +47,9 @@ pub(crate) fn has_body(claim: &ReplyClaim<'_>, body: &[u8]) -> bool
     ensures { result ≡ has_body claim.now body.now }
 {
     if asks_head(claim) {
-        claim.reply.body.is_empty()
+        claim.body().is_empty()
     } else {
-        claim.reply.body.as_slice() == body
+        claim.body().equals(body)
     }
 }
 
@@ -58,7 +58,7 @@ fn is_earned(claim: &ReplyClaim<'_>, state: &Stored) -> bool
     ensures { result ≡ is_earned claim.now state.now }
 {
     is_not_modified(claim)
-        && claim.reply.body.is_empty()
+        && claim.body().is_empty()
         && client_condition(&claim.request.fields, state.status, &state.fields)
 }
 
@@ -66,7 +66,7 @@ fn is_earned(claim: &ReplyClaim<'_>, state: &Stored) -> bool
 fn has_its_body(claim: &ReplyClaim<'_>, state: &Stored) -> bool
     ensures { result ≡ has_its_body claim.now state.now }
 {
-    (claim.reply.head.status == state.status && has_body(claim, state.body.as_slice()))
+    (claim.status() == state.status && has_body(claim, state.body.as_slice()))
         || is_earned(claim, state)
 }
 
@@ -105,7 +105,7 @@ fn is_age(claim: &ReplyClaim<'_>, age: u32, told: Option<u32>) -> bool
 fn age_told(claim: &ReplyClaim<'_>) -> Option<u32>
     ensures { result ≡ option_and_then number_of (only_value (codes "age") claim.now.reply.head.fields) }
 {
-    number(claim.reply.head.fields.only(b"age")?)
+    number(claim.fields().only(b"age")?)
 }
 
 /// Whether the reply has its Age (RFC 9111 section 5.1).

@@ -97,7 +97,7 @@ pub fn found_of_collapsed(passed: u32) -> Finding
 pub fn found_of_unmarked(claim: &ReplyClaim<'_>) -> Finding
     ensures { (h : List Item) → IsFoundBy Mark.Unmarked claim.now h result }
 {
-    if allows_unmarked(claim.settings.unmarked, claim.reply.head.status) {
+    if allows_unmarked(claim.settings.unmarked, claim.status()) {
         Finding::Right
     } else {
         Finding::Wrong(Reason::Unmarked)

@@ -22,7 +22,7 @@ fn asks_the_same(claim: &ReplyClaim<'_>, method: &Method) -> bool
 fn carries_whole(claim: &ReplyClaim<'_>, status: StatusCode, body: &[u8]) -> bool
     ensures { result ≡ carries_whole claim.now status body.now }
 {
-    claim.reply.head.status == status && has_body(claim, body)
+    claim.status() == status && has_body(claim, body)
 }
 
 /// Whether the reply is a part of it, or says that there is no such part, where ranges are allowed.

@@ -5,8 +5,8 @@ ghost use Rattle.hc_status.specs.Marks.{mark_of};
 ghost use Rattle.hc_history.specs.Marks.{inferred_mark, infers, judged_mark, mark_by, reply_mark, says_nothing, tells_causes};
 
 use crate::allowed::Allowed;
-use hc_framing::Message;
-use hc_head::{ResponseHead, StatusCode};
+use hc_framing::ResponseView;
+use hc_head::StatusCode;
 use hc_status::{Mark, MarkFault, mark};
 use hc_transcript::Format;
 use std::alloc::{AllocError, Global};
@@ -31,7 +31,7 @@ fn judged_mark(status: StatusCode, mark: Mark) -> Mark
 }
 
 /// What the Cache-Status of a reply says of it (RFC 9211).
-fn told_mark(alloc: Global, reply: &Message<ResponseHead>) -> Result<Mark, AllocError>
+fn told_mark(alloc: Global, reply: &ResponseView<'_>) -> Result<Mark, AllocError>
     ensures { IfOk result (λ told. told ≡ mark_of reply.now.head.fields) }
 {
     match mark(alloc, &reply.head.fields) {
@@ -42,7 +42,7 @@ fn told_mark(alloc: Global, reply: &Message<ResponseHead>) -> Result<Mark, Alloc
 
 /// The mark of a reply: what its Cache-Status says of it (RFC 9211). Reuse of a part of a body isn't
 /// judged, so a hit of status 206 counts as unmarked.
-pub fn reply_mark(alloc: Global, reply: &Message<ResponseHead>) -> Result<Mark, AllocError>
+pub fn reply_mark(alloc: Global, reply: &ResponseView<'_>) -> Result<Mark, AllocError>
     ensures { IfOk result (λ mark. mark ≡ reply_mark reply.now) }
 {
     let told = told_mark(alloc, reply)?;
@@ -83,7 +83,7 @@ fn inferred_mark(forwarded: bool) -> Mark
 /// A reply with its mark, which is read once. Contracts see it as the reply.
 #[derive(Drop)]
 pub struct MarkedReply<'a> {
-    reply: &'a Message<ResponseHead>,
+    reply: &'a ResponseView<'a>,
     told: Mark,
 }
 
@@ -102,7 +102,7 @@ impl<'a> Model for MarkedReply<'a> {
 
 impl<'a> MarkedReply<'a> {
     /// The reply with what its Cache-Status says of it.
-    pub fn read(alloc: Global, reply: &'a Message<ResponseHead>) -> Result<Self, AllocError>
+    pub fn read(alloc: Global, reply: &'a ResponseView<'a>) -> Result<Self, AllocError>
         ensures { IfOk result (λ m. m ≡ reply.now) }
     {
         let told = told_mark(alloc, reply)?;
@@ -110,7 +110,7 @@ impl<'a> MarkedReply<'a> {
     }
 
     /// The reply.
-    pub fn reply(&self) -> &'a Message<ResponseHead>
+    pub fn reply(&self) -> &'a ResponseView<'a>
         ensures { result.now ≡ self.now }
     {
         self.reply
@@ -120,7 +120,8 @@ impl<'a> MarkedReply<'a> {
     pub fn mark(&self) -> Mark
         ensures { result ≡ reply_mark self.now }
     {
-        judged_mark(self.reply.head.status, self.told)
+        let reply = self.reply;
+        judged_mark(reply.head.status, self.told)
     }
 
     /// Whether its mark is inferred, where a forward was made for its exchange, or where none was: the audit
@@ -129,11 +130,12 @@ impl<'a> MarkedReply<'a> {
     pub fn infers(&self, format: Format, allowed: &Allowed, forwarded: bool) -> bool
         ensures { result ≡ infers format allowed.now forwarded self.now }
     {
+        let reply = self.reply;
         allowed.inferred_marks
             && tells_causes(format)
             && says_nothing(self.told)
-            && self.reply.head.status.as_u16() < 400
-            && (forwarded || self.reply.head.status != StatusCode::PARTIAL_CONTENT)
+            && reply.head.status.as_u16() < 400
+            && (forwarded || reply.head.status != StatusCode::PARTIAL_CONTENT)
     }
 
     /// The mark by which it is judged and counted: its own, or the one that is inferred.

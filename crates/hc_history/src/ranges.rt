@@ -5,6 +5,7 @@ ghost use Rattle.hc_history.specs.Ranges.{asks_for_part, before_octet, behind_oc
 
 use crate::claim::ReplyClaim;
 use hc_fields::decimal;
+use hc_framing::BodyView;
 use hc_head::{StatusCode, is_get};
 
 /// What a Content-Range line tells (RFC 9110 section 14.4).
@@ -59,7 +60,7 @@ fn range_told(text: &[u8]) -> Option<ContentRange>
 fn content_range(claim: &ReplyClaim<'_>) -> Option<ContentRange>
     ensures { result ≡ content_range claim.now }
 {
-    range_told(claim.reply.head.fields.only(b"content-range")?)
+    range_told(claim.fields().only(b"content-range")?)
 }
 
 /// Whether it is a GET with a Range field, and the audit allows parts.
@@ -72,7 +73,7 @@ fn asks_for_part(claim: &ReplyClaim<'_>) -> bool
 }
 
 /// Whether those octets are the part of the body that is told.
-fn is_part_told(octets: &[u8], body: &[u8], told: Option<ContentRange>) -> bool
+fn is_part_told(octets: &BodyView<'_>, body: &[u8], told: Option<ContentRange>) -> bool
     ensures { result ≡ is_part_told octets.now body.now told }
 {
     let Some(ContentRange::Part(first, last, whole)) = told else {
@@ -83,7 +84,7 @@ fn is_part_told(octets: &[u8], body: &[u8], told: Option<ContentRange>) -> bool
     }
     let (_, rest) = body.split_at(first as usize);
     let (part, _) = rest.split_at((last - first) as usize + 1);
-    octets == part
+    octets.equals(part)
 }
 
 /// Whether it is told that there is no such part of a body of that length.
@@ -101,9 +102,9 @@ pub(crate) fn is_part(claim: &ReplyClaim<'_>, status: StatusCode, body: &[u8]) -
     ensures { result ≡ is_part claim.now status body.now }
 {
     asks_for_part(claim)
-        && claim.reply.head.status == StatusCode::PARTIAL_CONTENT
+        && claim.status() == StatusCode::PARTIAL_CONTENT
         && status == StatusCode::OK
-        && is_part_told(claim.reply.body.as_slice(), body, content_range(claim))
+        && is_part_told(claim.body(), body, content_range(claim))
 }
 
 /// Whether the reply is a 416 that tells the length of the body of a response of that status.
@@ -111,7 +112,7 @@ pub(crate) fn is_no_part(claim: &ReplyClaim<'_>, status: StatusCode, body: &[u8]
     ensures { result ≡ is_no_part claim.now status body.now }
 {
     asks_for_part(claim)
-        && claim.reply.head.status == StatusCode::RANGE_NOT_SATISFIABLE
+        && claim.status() == StatusCode::RANGE_NOT_SATISFIABLE
         && status == StatusCode::OK
         && is_no_part_told(body.len(), content_range(claim))
 }

@@ -1,7 +1,10 @@
-use Rattle.std.proofs.Common.{◌≡◌, drop}
+use Rattle.std.proofs.Common.{◌≡◌, length}
 use Rattle.hc_history.proofs.ComparedLemmas.{has_lines}
 use Rattle.hc_history.proofs.compared.has_its_lines.Given as goal
 
 -- the lines that are left decide
-abbrev pub invariant-loop-line : goal.invariant-loop-line
-invariant-loop-line l = has_lines l.claim l.state (drop l.line-index l.line-items) ≡ has_lines l.claim l.state l.line-items
+abbrev pub invariant-loop-name : goal.invariant-loop-name
+invariant-loop-name l = has_lines l.claim l.state l.rest ≡ has_lines l.claim l.state l.initial.rest
+
+abbrev pub decreases-loop-name : goal.decreases-loop-name
+decreases-loop-name l = length l.rest

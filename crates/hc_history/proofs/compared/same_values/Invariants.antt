@@ -9,4 +9,4 @@ use Rattle.hc_history.proofs.compared.same_values.Given as goal
 abbrev pub invariant-loop-value : goal.invariant-loop-value
 invariant-loop-value l =
     pointwise bytes_eq (values_of l.value-iterator.name.now l.value-iterator.lines) (values_of l.others.name.now l.others.lines)
-    ≡ same_values l.one l.other l.name
+    ≡ same_values l.fn.one l.fn.other l.name
