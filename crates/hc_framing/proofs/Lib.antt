@@ -2,6 +2,7 @@ pub mod ChunkLemmas
 pub mod BodyLemmas
 pub mod PieceLemmas
 pub mod OrderLemmas
+pub mod CommonLemmas
 pub mod NotingLemmas
 pub mod FramingLemmas
 pub mod ReaderLemmas

@@ -1,5 +1,6 @@
 -- Bodies that lie in pieces of octets.
-use Rattle.std.specs.Prelude.{ℕ, ◌+◌, ◌≤◌, List, [], ◌∷◌}
+use Rattle.std.specs.Prelude.{ℕ, ◌+◌, ◌≤◌, ◌==◌, List, [], ◌∷◌, zip}
+use Rattle.std.specs.List.{prefix_len}
 use Rattle.std.specs.Coded.{×_prop, Unit-prop, le_prop}
 use Rattle.hc_fields.specs.Views.{piece}
 use Rattle.hc_framing.specs.declared.body_view.Piece.{Piece}
@@ -22,3 +23,7 @@ end_of at (p ∷ ps) = end_of (p.start + p.len) ps
 pub AreInOrder-prop : (at : ℕ) (pieces : List Piece) → IsProp (AreInOrder at pieces)
 AreInOrder-prop at [] = Unit-prop
 AreInOrder-prop at (p ∷ ps) = ×_prop le_prop (AreInOrder-prop (p.start + p.len) ps)
+
+-- how many octets both begin with
+abbrev pub in_common : List ℕ → List ℕ → ℕ
+in_common one other = prefix_len (λ pair. pair.0 == pair.1) (zip one other)

@@ -2,7 +2,7 @@
 
 ghost use Rattle.std.specs.Prelude.{◌≡◌, ◌==◌, ◌≤◌, ◌++◌, length, IfOk, OnOk, Decides};
 ghost use Rattle.std.specs.List.{flat_map};
-ghost use Rattle.hc_framing.specs.Pieces.{AreInOrder, piece_at};
+ghost use Rattle.hc_framing.specs.Pieces.{AreInOrder, in_common, piece_at};
 
 use hc_fields::Octets;
 use std::alloc::{AllocError, Global};
@@ -72,6 +72,31 @@ fn equal_pieces(octets: &[u8], pieces: &[Piece], other: &[u8]) -> bool
     rest.is_empty()
 }
 
+/// How many octets both begin with.
+fn octets_in_common(one: &[u8], other: &[u8]) -> usize
+    ensures { result ≡ in_common one.now other.now }
+{
+    one.iter()
+        .zip(other.iter())
+        .take_while(|pair| pair.0 == pair.1)
+        .count()
+}
+
+/// How many octets the pieces, one behind another, and the octets both begin with.
+fn pieces_in_common(octets: &[u8], pieces: &[Piece], other: &[u8]) -> usize
+    ensures { result ≡ in_common (flat_map (piece_at octets.now) pieces.now) other.now }
+{
+    let mut rest = other;
+    for at in pieces {
+        let piece = octets_at(octets, *at);
+        let Some(behind) = rest.strip_prefix(piece) else {
+            return other.len() - rest.len() + octets_in_common(piece, rest);
+        };
+        rest = behind;
+    }
+    other.len() - rest.len()
+}
+
 /// Appends the octets of the pieces.
 fn push_pieces(copy: &mut Octets, octets: &[u8], pieces: &[Piece]) -> Result<(), AllocError>
     ensures { OnOk result (copy.new ≡ copy.old ++ flat_map (piece_at octets.now) pieces.now) }
@@ -138,6 +163,16 @@ impl<'a> BodyView<'a> {
         match other.strip_prefix(self.one) {
             Some(behind) => equal_pieces(self.octets, self.pieces, behind),
             None => false,
+        }
+    }
+
+    /// How many octets the body and these both begin with.
+    pub fn agreed_len(&self, other: &[u8]) -> usize
+        ensures { result ≡ in_common self.now other.now }
+    {
+        match other.strip_prefix(self.one) {
+            Some(behind) => self.one.len() + pieces_in_common(self.octets, self.pieces, behind),
+            None => octets_in_common(self.one, other),
         }
     }
 

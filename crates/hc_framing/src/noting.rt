@@ -14,8 +14,8 @@ use crate::framing::Framing;
 use crate::framing_reader::FramingReader;
 use std::alloc::Global;
 
-/// Notes one piece more, behind the others, unless it has no octets. One that 32 bits can't tell is the fault
-/// `Memory`.
+/// Notes one piece more, behind the others, unless it has no octets. One that 32 bits can't tell is the
+/// fault `Memory`.
 fn note_piece(pieces: &mut Vec<Piece>, start: usize, len: usize) -> Result<(), FrameFault>
     requires ordered { AreInOrder 0 pieces.old.items }
     requires behind { end_of 0 pieces.old.items ≤ start }
@@ -74,8 +74,8 @@ fn note_parts(
 }
 
 /// Notes in place of the pieces where the octets of a body stand, if the octets from a place on are all of a
-/// body that is framed so. The pieces are in order, after a fault too. A place that 32 bits can't tell is the fault
-/// `Memory`.
+/// body that is framed so. The pieces are in order, after a fault too. A place that 32 bits can't tell is the
+/// fault `Memory`.
 pub(crate) fn note_body(
     alloc: Global,
     pieces: &mut Vec<Piece>,

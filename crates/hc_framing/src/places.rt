@@ -47,7 +47,8 @@ impl Places {
         kind: Kind,
         room: Room,
     ) -> Result<(), FrameFault>
-        ensures { GivesMessage H.form kind (noted result (message_at H.at self.new octets.now)) octets.now room }
+        ensures { GivesMessage H.form kind (noted result (message_at H.at self.new octets.now)) octets.now
+            room }
     {
         match H::find(&mut self.head, octets, room) {
             Err(fault) => Err(head_fault(fault)),
