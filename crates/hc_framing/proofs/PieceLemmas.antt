@@ -1,8 +1,10 @@
 -- Octets that begin with pieces, one behind another.
-use Rattle.std.proofs.Common.{◌≡◌, ℕ, ◌+◌, ◌<◌, true, false, List, [], ◌∷◌, ◌++◌, length, take, drop, get_or, sym, ap, ◌∙◌, arith, append_assoc, append-nil}
+use Rattle.std.proofs.Common.{◌≡◌, ℕ, ◌+◌, ◌<◌, true, false, List, [], ◌∷◌, ◌++◌, length, take, drop, get_or, map, sym, ap, ◌∙◌, arith, append_assoc, append-nil}
 use Rattle.std.specs.Str.{bytes_eq}
-use Rattle.std.specs.List.{flat_map}
+use Rattle.std.specs.List.{concat, flat_map}
 use Rattle.std.proofs.lemmas.Grind.{flat_map-append}
+use Rattle.std.proofs.lemmas.List.Concat.{concat_is}
+use Rattle.std.proofs.lemmas.List.Folds.{flat_map-map}
 use Rattle.std.proofs.lemmas.List.{append_cancel_left, drop_more, take_all, take_more, take-append-drop, take-append-le}
 use Rattle.std.proofs.lemmas.Slice.Eq.{bytes_eq-Decides}
 use Rattle.hc_framing.specs.declared.body_view.Piece.{Piece}
@@ -23,6 +25,10 @@ no_front s rest k unlike is =
     sym unlike ∙ (bytes_eq-Decides (take (length s) rest) s).1 (ap (λ (o : List ℕ). take (length s) o) is ∙ front s k)
 
 module _ (f : Piece → List ℕ) where
+  -- the slices of the pieces, joined
+  pub joined : (pieces : List Piece) → concat (map f pieces) ≡ flat_map f pieces
+  joined pieces = concat_is (map f pieces) ∙ flat_map-map (λ (o : List ℕ). o) f pieces
+
   one_more : (pieces : List Piece) (i : ℕ) (d : Piece) → i < length pieces → flat_map f (take (i + 1) pieces) ≡ flat_map f (take i pieces) ++ f (get_or pieces i d)
   one_more pieces i d lt =
       ap (λ (ps : List Piece). flat_map f ps) (take_more pieces i d lt)

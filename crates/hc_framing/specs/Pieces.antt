@@ -1,5 +1,6 @@
 -- Bodies that lie in pieces of octets.
-use Rattle.std.specs.Prelude.{ℕ, ◌+◌, ◌≤◌, ◌==◌, List, [], ◌∷◌, zip}
+use Rattle.std.specs.Prelude.{ℕ, ◌+◌, ◌≤◌, ◌==◌, List, [], ◌∷◌, Option, Some, None, map, zip}
+use Rattle.std.specs.Borrow.{Bor}
 use Rattle.std.specs.List.{prefix_len}
 use Rattle.std.specs.Coded.{×_prop, Unit-prop, le_prop}
 use Rattle.hc_fields.specs.Views.{piece}
@@ -27,3 +28,8 @@ AreInOrder-prop at (p ∷ ps) = ×_prop le_prop (AreInOrder-prop (p.start + p.le
 -- how many octets both begin with
 abbrev pub in_common : List ℕ → List ℕ → ℕ
 in_common one other = prefix_len (λ pair. pair.0 == pair.1) (zip one other)
+
+-- the slice that is to come before the pieces, if one is, and those of the pieces
+abbrev pub slices_at : Option (Bor (List ℕ)) → List ℕ → List Piece → List (List ℕ)
+slices_at (Some one) octets pieces = one.now ∷ map (piece_at octets) pieces
+slices_at None octets pieces = map (piece_at octets) pieces

@@ -1,7 +1,8 @@
 //! Bodies that are lent in pieces.
 
 ghost use Rattle.std.specs.Prelude.{◌≡◌, ◌==◌, ◌≤◌, ◌++◌, length, IfOk, OnOk, Decides};
-ghost use Rattle.std.specs.List.{flat_map};
+ghost use Rattle.std.specs.Iterator.{YieldsFirstRef, item_count};
+ghost use Rattle.std.specs.List.{concat, flat_map};
 ghost use Rattle.hc_framing.specs.Pieces.{AreInOrder, in_common, piece_at};
 
 use hc_fields::Octets;
@@ -36,6 +37,24 @@ impl<'a> Model for BodyView<'a> {
     ghost view = { λ b. b.one.now ++ flat_map (piece_at b.octets.now) b.pieces.now };
 
     ghost invariant = { λ b. AreInOrder 0 b.pieces.now };
+}
+
+/// An iterator over the slices of a body that is lent, which contracts see as the list of those that are left.
+#[derive(Drop)]
+pub struct BodySlices<'a> {
+    // The slice before the pieces, until it is given.
+    one: Option<&'a [u8]>,
+    octets: &'a [u8],
+    pieces: &'a [Piece],
+}
+
+impl<'a> Model for BodySlices<'a> {
+    ghost use Rattle.std.specs.Prelude.{List, ℕ};
+    ghost use Rattle.hc_framing.specs.Pieces.{slices_at};
+
+    ghost Value = { List (List ℕ) };
+
+    ghost view = { λ s. slices_at s.one s.octets.now s.pieces.now };
 }
 
 /// The octets of a piece.
@@ -107,6 +126,23 @@ fn push_pieces(copy: &mut Octets, octets: &[u8], pieces: &[Piece]) -> Result<(),
     Ok(())
 }
 
+impl<'a> Iterator for BodySlices<'a> {
+    type Item = &'a [u8];
+
+    ghost next_gives = { YieldsFirstRef (λ slices. slices) };
+
+    ghost remaining = { item_count (λ slices. slices) };
+
+    fn next(&mut self) -> Option<&'a [u8]> {
+        if let Some(one) = self.one.take() {
+            return Some(one);
+        }
+        let (first, others) = self.pieces.split_first()?;
+        self.pieces = others;
+        Some(octets_at(self.octets, *first))
+    }
+}
+
 impl<'a> BodyView<'a> {
     /// A body that lies in one slice.
     pub fn of(one: &'a [u8]) -> Self
@@ -154,6 +190,17 @@ impl<'a> BodyView<'a> {
         ensures { result ≡ (length self.now == 0) }
     {
         self.len() == 0
+    }
+
+    /// The slices that the body lies in, one behind another: one more than it has pieces.
+    pub fn slices(&self) -> BodySlices<'a>
+        ensures { concat result ≡ self.now }
+    {
+        BodySlices {
+            one: Some(self.one),
+            octets: self.octets,
+            pieces: self.pieces,
+        }
     }
 
     /// Whether the body has these octets.

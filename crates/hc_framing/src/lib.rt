@@ -17,7 +17,7 @@ mod text;
 mod whole;
 mod writing;
 
-pub use body_view::{BodyView, Piece};
+pub use body_view::{BodySlices, BodyView, Piece};
 pub use fault::FrameFault;
 pub use framing::Framing;
 pub use head::MessageHead;
