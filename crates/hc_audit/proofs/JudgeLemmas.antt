@@ -36,7 +36,8 @@ use Rattle.hc_history.proofs.NoteLemmas.{forwarded_in_window}
 use Rattle.hc_history.specs.Found.{IsFound, AnswersOpen}
 use Rattle.hc_history.specs.Right.{AllRight}
 use Rattle.hc_history.specs.Seen.{Seen}
-use Rattle.hc_history.specs.Verdicts.{IsVerdict}
+use Rattle.hc_history.specs.declared.verdicts.Counts.{Counts}
+use Rattle.hc_history.specs.Verdicts.{IsVerdict, IsAllRight}
 use Rattle.hc_history.proofs.FoundLemmas.{found_right, found_wrong, follows_open}
 use Rattle.hc_history.proofs.VerdictLemmas.{no_stays, one_verdict}
 use Rattle.hc_audit.specs.declared.judge.Judge.{Judge}
@@ -249,6 +250,14 @@ end_is r octets settings records h f position agrees right waits (inl is) unread
     subst (λ (g : RecordFault). IsVerdict octets settings (Malformed position g)) (sym is)
     (subst (λ (n : ℕ). IsVerdict octets settings (Malformed n fault.Torn)) (sym position-is) (torn_of r octets settings records h agrees right waits unread))
 end_is r octets settings records h f position agrees right waits (inr failed) unread position-is = absurd (none_is_some r.fault f agrees.unfailed failed)
+
+-- a transcript whose replies are all right
+pub whole_is_right : (r : RecordReader) (octets : List ℕ) (settings : Settings) (records : List Record) (h : List Item) (counts : Counts) → Agrees r octets records h
+    → (format : Format) × IsTranscript format octets records h → AreRight (format_read r) settings h
+    → ((format : Format) → MayBeOf (format_read r) format → counts ≡ counts_of format settings h) → IsAllRight octets settings counts
+whole_is_right r octets settings records h counts agrees is right are =
+    let may = may_be_split r octets records records h h [] is.0 agrees is.1 in
+    record { format = is.0; records = records; history = h; is_transcript = is.1; all_right = right is.0 may; counts_are = are is.0 may }
 
 -- ---- what octets are that may go on
 

@@ -19,7 +19,7 @@ returns-clause-read g c = λ settings octets h a mark-is.
       reads = a.reads;
       index = of_the_read (λ (k : Format). IsSeenAs k (g.I.Index.seen c.note.new.self) (a.item ∷ h)) (format_read c.args.self.now.reader) c.args.format
           a.format_is
-          (subst (λ (i : Item). IsSeenAs c.args.format (g.I.Index.seen c.note.new.self) (i ∷ h)) (c.view.ensures.item a.item a.lends) (c.in_ok-note.ensures h position a.index));
+          (subst (λ (i : Item). IsSeenAs c.args.format (g.I.Index.seen c.note.new.self) (i ∷ h)) (c.view-view.ensures.item a.item a.lends) (c.in_ok-note.ensures h position a.index));
       counts = of_the_read (λ (k : Format). c.count.new.self ≡ counts_of k settings (a.item ∷ h)) (format_read c.args.self.now.reader) c.args.format
           a.format_is
           (c.count.ensures

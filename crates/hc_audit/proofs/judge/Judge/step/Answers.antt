@@ -32,14 +32,14 @@ returns-in-Wrong-clause-gives g c = λ settings octets j.
     wrong_stands g.I.Index.seen c.advance.new.self settings octets j.history format a c.in-Wrong.reason c.records.result
     (in_the_read (λ (k : Format). AllRight k settings j.history) (format_read c.args.self.now.reader) (format_read c.advance.new.self.reader) format
     c.in_ok-advance.ensures.format a.format_is j.right)
-    (found_here format _ settings _ a.item j.history _ _ a.settings_are (c.view.ensures.item a.item a.lends) c.in-Wrong.is (c.in_ok-finding.ensures.finding j.history a.index))
+    (found_here format _ settings _ a.item j.history _ _ a.settings_are (c.view-view.ensures.item a.item a.lends) c.in-Wrong.is (c.in_ok-finding.ensures.finding j.history a.index))
     c.records.ensures.value
 
 pub returns-clause-gives : goal.returns-clause-gives
 returns-clause-gives g c = λ settings octets j.
     let a = rw c.in-Record.is at (c.in_ok-advance.ensures.gives settings octets j.history j.read) in
     let format = c.in-Record.format in
-    let item = c.view.ensures.item a.item a.lends in
+    let item = c.view-view.ensures.item a.item a.lends in
     let opens = subst (λ (i : Item). AnswersOpen j.history i) (sym item) (ahead_open g.I.Index.seen c.advance.new.self settings octets j.history format a) in
     right_goes_on g.I.Index.seen c.advance.new.self settings octets j.history format a _
     (in_the_read (λ (k : Format). AllRight k settings j.history) (format_read c.args.self.now.reader) (format_read c.advance.new.self.reader) format
