@@ -3,10 +3,10 @@
 use crate::written::line_in;
 use hc_auditing::verdict_line;
 use hc_cases::{Unanswered, show_short};
-use hc_framing::Message;
-use hc_head::{ResponseHead, Target};
+use hc_framing::ResponseView;
+use hc_head::Target;
 use hc_history::Verdict;
-use hc_transcript::{Meaning, OwnedItem, RecordFault, RecordReader};
+use hc_transcript::{MeaningView, RecordFault, RecordReader, RecordView};
 use std::alloc::{AllocError, Global};
 use std::fmt::Write;
 
@@ -23,7 +23,7 @@ fn say_read(
     out: &mut String,
 ) -> Result<(), Unanswered> {
     for piece in pieces {
-        say_piece(reader, piece, out)?;
+        say_piece(alloc, reader, piece, out)?;
     }
     let ended = reader.finish();
     say_end(alloc, reader, ended, out)
@@ -31,10 +31,15 @@ fn say_read(
 
 // Writes the records that end in the next piece; no more do than it has octets. A fault is met again
 // behind it, and at the end.
-fn say_piece(reader: &mut RecordReader, piece: &[u8], out: &mut String) -> Result<(), AllocError> {
+fn say_piece(
+    alloc: Global,
+    reader: &mut RecordReader,
+    piece: &[u8],
+    out: &mut String,
+) -> Result<(), AllocError> {
     let _ = reader.feed(piece);
     for _ in piece {
-        if !say_next(reader, out)? {
+        if !say_next(alloc, reader, out)? {
             return Ok(());
         }
     }
@@ -42,10 +47,15 @@ fn say_piece(reader: &mut RecordReader, piece: &[u8], out: &mut String) -> Resul
 }
 
 // Writes the next record, and answers whether there was one.
-fn say_next(reader: &mut RecordReader, out: &mut String) -> Result<bool, AllocError> {
+fn say_next(
+    alloc: Global,
+    reader: &mut RecordReader,
+    out: &mut String,
+) -> Result<bool, AllocError> {
     match reader.advance() {
         Ok(true) => {
-            say_item(reader.item(), out)?;
+            let view = reader.view();
+            say_item(alloc, &view, out)?;
             out.push_str(", ")?;
             Ok(true)
         }
@@ -72,18 +82,20 @@ fn say_end(
     Ok(())
 }
 
-fn say_item(item: &OwnedItem, out: &mut String) -> Result<(), AllocError> {
+fn say_item(alloc: Global, item: &RecordView<'_>, out: &mut String) -> Result<(), AllocError> {
     let number = item.number;
     let moment = item.moment;
     match &item.of {
-        Meaning::ClientRequest { target, .. } => say_request('q', number, moment, target, out),
-        Meaning::OriginRequest { target, cause, .. } => {
+        MeaningView::ClientRequest { target, .. } => say_request('q', number, moment, target, out),
+        MeaningView::OriginRequest { target, cause, .. } => {
             say_request('f', number, moment, target, out)?;
             say_cause(*cause, out)
         }
-        Meaning::OriginResponse(response) => say_response('r', number, moment, response, out),
-        Meaning::OriginFailure => write!(out, "x {number} {moment}"),
-        Meaning::ClientReply(reply) => say_response('a', number, moment, reply, out),
+        MeaningView::OriginResponse(response) => {
+            say_response(alloc, 'r', number, moment, response, out)
+        }
+        MeaningView::OriginFailure => write!(out, "x {number} {moment}"),
+        MeaningView::ClientReply(reply) => say_response(alloc, 'a', number, moment, reply, out),
     }
 }
 
@@ -109,14 +121,16 @@ fn say_cause(cause: Option<u64>, out: &mut String) -> Result<(), AllocError> {
 }
 
 fn say_response(
+    alloc: Global,
     letter: char,
     number: u64,
     moment: u64,
-    response: &Message<ResponseHead>,
+    response: &ResponseView<'_>,
     out: &mut String,
 ) -> Result<(), AllocError> {
     let status = response.head.status.as_u16();
     write!(out, "{letter} {number} {moment} {status} \"")?;
-    show_short(response.body.as_slice(), out)?;
+    let body = response.body.copy(alloc)?;
+    show_short(body.as_slice(), out)?;
     out.push('"')
 }

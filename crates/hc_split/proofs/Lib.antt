@@ -1,4 +1,3 @@
-pub mod TextLemmas
 pub mod JoinedLemmas
 pub mod SplitLemmas
 pub mod TableLemmas

@@ -5,20 +5,20 @@ use Rattle.std.specs.Io.KnownBytes.{Appends}
 use Rattle.std.proofs.lemmas.Bool.Decides.{nat_tests}
 use Rattle.hc_head.specs.declared.head.Target.{Target}
 use Rattle.hc_transcript.specs.declared.format.Format.{Format}
+use Rattle.hc_transcript.specs.declared.reader.RecordReader.{RecordReader}
 use Rattle.hc_transcript.specs.declared.record.Record.{Record}
 use Rattle.hc_transcript.specs.Items.{Item}
 use Rattle.hc_transcript.specs.History.{next_position}
+use Rattle.hc_transcript.specs.Reader.{Agrees, text_lent}
 use Rattle.hc_transcript.specs.Records.{record_text, records_text}
 use Rattle.hc_parts.specs.Parts.{KeepsCauses, goes_into, is_of_part, records_in, target_about}
 use Rattle.hc_split.specs.declared.outlets.Outlet.{Outlet}
 use Rattle.hc_split.specs.Outlets.{position_line, table_of, text_of}
 use Rattle.hc_split.specs.declared.parts.Parts.{Parts}
-use Rattle.hc_split.specs.declared.records.TextReader.{TextReader}
 use Rattle.hc_split.specs.declared.splitter.Splitter.{Splitter}
 use Rattle.hc_split.specs.Parting.{part_by}
 use Rattle.hc_split.specs.Routing.{IsRouted, RoutesAs}
 use Rattle.hc_split.specs.Splitting.{AreGiven, GetsMore, HasRead, IsSplitting, ReadsOne, SplitsOn, positions_in, table_text}
-use Rattle.hc_split.specs.Texts.{Reads, text_lent}
 
 -- ---- octets that are appended
 
@@ -160,7 +160,7 @@ module _ {W : Type 0} (contents : W → Option (List ℕ)) where
         others = r.one ∷ records;
         items = r.item ∷ h;
         is = record {
-          reads = subst (λ (t : TextReader). Reads t octets (r.one ∷ records) (r.item ∷ h)) (sym same-reader) r.reads;
+          reads = subst (λ (t : RecordReader). Agrees t octets (r.one ∷ records) (r.item ∷ h)) (sym same-reader) r.reads;
           routes = subst (λ (p : Parts). RoutesAs (part_by p) last.routes (r.item ∷ h)) (sym same-parts) routed.routes_are;
           keeps = subst (λ (p : Parts). KeepsCauses (part_by p) (r.item ∷ h)) (sym same-parts) (r.keeps, routed.keeps);
         };

@@ -1,5 +1,3 @@
-pub mod Openings
-pub mod Texts
 pub mod Parting
 pub mod Routing
 pub mod Outlets

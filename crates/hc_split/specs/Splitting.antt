@@ -6,7 +6,7 @@ use Rattle.hc_transcript.specs.declared.format.Format.{Format}
 use Rattle.hc_transcript.specs.declared.record.Record.{Record}
 use Rattle.hc_transcript.specs.Items.{Item}
 use Rattle.hc_transcript.specs.History.{next_position}
-use Rattle.hc_transcript.specs.Reader.{Lends}
+use Rattle.hc_transcript.specs.Reader.{Agrees, Lends, text_lent}
 use Rattle.hc_transcript.specs.Records.{record_text, records_text}
 use Rattle.hc_parts.specs.Parts.{KeepsCauses, goes_into, records_in}
 use Rattle.hc_split.specs.declared.outlets.Outlet.{Outlet}
@@ -14,7 +14,6 @@ use Rattle.hc_split.specs.declared.splitter.Splitter.{Splitter}
 use Rattle.hc_split.specs.Outlets.{position_line, table_of, text_of}
 use Rattle.hc_split.specs.Parting.{part_by}
 use Rattle.hc_split.specs.Routing.{RoutesAs}
-use Rattle.hc_split.specs.Texts.{Reads, text_lent}
 
 -- the positions in the whole of the records of a part, in rising order
 abbrev pub positions_in : (Target → ℕ) → ℕ → List Item → List ℕ
@@ -28,7 +27,7 @@ table_text (position ∷ positions) = position_line position ++ table_text posit
 
 -- the splitter has read these records of the octets, and they keep together what has to go into one part
 pub record IsSplitting (s : Splitter) (octets : List ℕ) (records : List Record) (h : List Item) : Type 0 where
-  pub reads : Reads s.reader octets records h
+  pub reads : Agrees s.reader octets records h
   pub routes : RoutesAs (part_by s.parts) s.routes h
   pub keeps : KeepsCauses (part_by s.parts) h
 
@@ -57,8 +56,8 @@ module _ {W : Type 0} (contents : W → Option (List ℕ)) where
 pub record ReadsOne (s : Splitter) (octets : List ℕ) (records : List Record) (h : List Item) : Type 0 where
   pub one : Record
   pub item : Item
-  pub reads : Reads s.reader octets (one ∷ records) (item ∷ h)
-  pub lends : Lends s.reader.reader item
+  pub reads : Agrees s.reader octets (one ∷ records) (item ∷ h)
+  pub lends : Lends s.reader item
   pub text_is : text_lent s.reader ≡ record_text s.format one
   pub routes : RoutesAs (part_by s.parts) s.routes h
   pub keeps : KeepsCauses (part_by s.parts) h

@@ -5,13 +5,12 @@ ghost use Rattle.hc_transcript.specs.Reader.{HasItem, unread};
 
 use crate::families::Families;
 use crate::fault::{SplitFault, fault_at};
-use crate::records::TextReader;
-use hc_transcript::{Format, RecordFault};
+use hc_transcript::{Format, RecordFault, RecordReader};
 use std::alloc::Global;
 
 /// Reads a recording that comes in pieces, and takes in the families of its targets.
 pub struct FamilyReader {
-    reader: TextReader,
+    reader: RecordReader,
     families: Families,
 }
 
@@ -27,7 +26,7 @@ impl FamilyReader {
     /// One that was given nothing.
     pub fn new(alloc: Global) -> Self {
         FamilyReader {
-            reader: TextReader::new(alloc),
+            reader: RecordReader::new(alloc),
             families: Families::new(alloc),
         }
     }
@@ -45,8 +44,8 @@ impl FamilyReader {
 
     // Reads the next record, if it is whole: `true` where one was read.
     fn read(&mut self) -> Result<bool, SplitFault>
-        ensures lends { result ≡ Ok true → HasItem self.new.reader.reader }
-        ensures shrinks { result ≡ Ok true → unread self.new.reader.reader < unread self.old.reader.reader }
+        ensures lends { result ≡ Ok true → HasItem self.new.reader }
+        ensures shrinks { result ≡ Ok true → unread self.new.reader < unread self.old.reader }
     {
         match self.reader.advance() {
             Ok(found) => Ok(found),
@@ -56,11 +55,12 @@ impl FamilyReader {
 
     // Takes in the record that was read last.
     fn note(&mut self) -> Result<(), SplitFault>
-        requires { HasItem self.old.reader.reader }
+        requires { HasItem self.old.reader }
         ensures { self.new.reader ≡ self.old.reader }
     {
         let octets = self.reader.text().len() as u64;
-        match self.families.note(self.reader.item(), octets) {
+        let view = self.reader.view();
+        match self.families.note(&view, octets) {
             Ok(()) => Ok(()),
             Err(_) => Err(SplitFault::Memory),
         }

@@ -5,7 +5,7 @@ ghost use Rattle.std.specs.Prelude.{◌≡◌, ◌<◌, IfOk};
 
 use crate::parts::Parts;
 use hc_head::Target;
-use hc_transcript::{Meaning, OwnedItem};
+use hc_transcript::{MeaningView, RecordView};
 use std::alloc::{AllocError, Global};
 use std::collections::BTreeMap;
 use std::mem;
@@ -54,7 +54,7 @@ impl Families {
     }
 
     /// Takes in the next record, which has so many octets.
-    pub fn note(&mut self, item: &OwnedItem, octets: u64) -> Result<(), AllocError> {
+    pub fn note(&mut self, item: &RecordView<'_>, octets: u64) -> Result<(), AllocError> {
         if let Some(number) = self.number_about(item)? {
             weigh(self.weights.as_mut_slice(), number, octets);
         }
@@ -62,16 +62,16 @@ impl Families {
     }
 
     // The number of the target of the next record.
-    fn number_about(&mut self, item: &OwnedItem) -> Result<Option<usize>, AllocError> {
+    fn number_about(&mut self, item: &RecordView<'_>) -> Result<Option<usize>, AllocError> {
         let number = item.number;
         match &item.of {
-            Meaning::ClientRequest { target, .. } => self.open_exchange(number, target),
-            Meaning::OriginRequest { target, cause, .. } => {
+            MeaningView::ClientRequest { target, .. } => self.open_exchange(number, target),
+            MeaningView::OriginRequest { target, cause, .. } => {
                 self.open_forward(number, target, *cause)
             }
-            Meaning::OriginResponse(_) => Ok(self.forwards.remove(&number)),
-            Meaning::OriginFailure => Ok(self.forwards.remove(&number)),
-            Meaning::ClientReply(_) => Ok(self.exchanges.remove(&number)),
+            MeaningView::OriginResponse(_) => Ok(self.forwards.remove(&number)),
+            MeaningView::OriginFailure => Ok(self.forwards.remove(&number)),
+            MeaningView::ClientReply(_) => Ok(self.exchanges.remove(&number)),
         }
     }
 

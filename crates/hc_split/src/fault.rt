@@ -1,7 +1,6 @@
 //! Why a recording isn't split.
 
-use crate::records::TextReader;
-use hc_transcript::RecordFault;
+use hc_transcript::{RecordFault, RecordReader};
 use std::io;
 
 /// Why a recording isn't split.
@@ -18,7 +17,7 @@ pub enum SplitFault {
 }
 
 /// Why nothing is read on, where the reader met that fault.
-pub(crate) fn fault_at(reader: &TextReader, fault: RecordFault) -> SplitFault {
+pub(crate) fn fault_at(reader: &RecordReader, fault: RecordFault) -> SplitFault {
     match fault {
         RecordFault::Memory => SplitFault::Memory,
         fault => SplitFault::Broken(reader.position(), fault),

@@ -3,7 +3,7 @@
 ghost use Rattle.std.specs.Prelude.{◌≡◌, ◌≢◌, ℕ, List, [], IfErr, IfOk, Err, None, Some, false, true};
 ghost use Rattle.std.specs.BTreeMap.{get};
 ghost use Rattle.std.specs.Ordering.{nat_cmp};
-ghost use Rattle.hc_transcript.specs.Items.{Item, item_of};
+ghost use Rattle.hc_transcript.specs.Items.{Item};
 ghost use Rattle.hc_parts.specs.Orderly.{IsInTurn};
 ghost use Rattle.hc_parts.specs.Parts.{KeepsCause};
 ghost use Rattle.hc_split.specs.Parting.{part_by};
@@ -11,7 +11,7 @@ ghost use Rattle.hc_split.specs.Routing.{ClosesRoute, IsRouted, OpensRoute, Rout
 
 use crate::parts::Parts;
 use hc_head::Target;
-use hc_transcript::{Meaning, OwnedItem};
+use hc_transcript::{MeaningView, RecordView};
 use std::alloc::Global;
 use std::collections::BTreeMap;
 
@@ -56,23 +56,23 @@ impl Routes {
 
     /// The part that the next record goes into. A forward that is told to be made for an exchange has to go where that
     /// exchange went.
-    pub fn route(&mut self, parts: &Parts, item: &OwnedItem) -> Result<usize, RouteFault>
+    pub fn route(&mut self, parts: &Parts, item: &RecordView<'_>) -> Result<usize, RouteFault>
         ensures ok { (h : List Item) → RoutesAs (part_by parts.now) self.old h
-            → IfOk result (IsRouted (part_by parts.now) self.new h (item_of item.now)) }
+            → IfOk result (IsRouted (part_by parts.now) self.new h item.now) }
         ensures apart { (h : List Item) → RoutesAs (part_by parts.now) self.old h
-            → result ≡ Err RouteFault.Apart → ¬ (KeepsCause (part_by parts.now) h (item_of item.now)) }
+            → result ≡ Err RouteFault.Apart → ¬ (KeepsCause (part_by parts.now) h item.now) }
         ensures unopened { (h : List Item) → RoutesAs (part_by parts.now) self.old h
-            → result ≡ Err RouteFault.NothingOpen → ¬ (IsInTurn h (item_of item.now)) }
+            → result ≡ Err RouteFault.NothingOpen → ¬ (IsInTurn h item.now) }
     {
         let number = item.number;
         match &item.of {
-            Meaning::ClientRequest { target, .. } => self.open_exchange(parts, number, target),
-            Meaning::OriginRequest { target, cause, .. } => {
+            MeaningView::ClientRequest { target, .. } => self.open_exchange(parts, number, target),
+            MeaningView::OriginRequest { target, cause, .. } => {
                 self.open_forward(parts, number, target, *cause)
             }
-            Meaning::OriginResponse(_) => closed(&mut self.forwards, number),
-            Meaning::OriginFailure => closed(&mut self.forwards, number),
-            Meaning::ClientReply(_) => closed(&mut self.exchanges, number),
+            MeaningView::OriginResponse(_) => closed(&mut self.forwards, number),
+            MeaningView::OriginFailure => closed(&mut self.forwards, number),
+            MeaningView::ClientReply(_) => closed(&mut self.exchanges, number),
         }
     }
 

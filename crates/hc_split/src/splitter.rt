@@ -12,15 +12,14 @@ ghost use Rattle.hc_split.specs.Splitting.{HasRead, IsSplitting, SplitsOn};
 use crate::fault::{SplitFault, fault_at};
 use crate::outlets::{Outlet, give};
 use crate::parts::Parts;
-use crate::records::TextReader;
 use crate::routes::{RouteFault, Routes};
-use hc_transcript::Format;
+use hc_transcript::{Format, RecordReader};
 use std::alloc::Global;
 use std::io::Write;
 
 /// Puts the records of a transcript of that format, which comes in pieces, into their parts.
 pub struct Splitter {
-    reader: TextReader,
+    reader: RecordReader,
     routes: Routes,
     parts: Parts,
     format: Format,
@@ -48,7 +47,7 @@ impl Splitter {
         ensures format { result.format ≡ format }
     {
         Splitter {
-            reader: TextReader::new(alloc),
+            reader: RecordReader::new(alloc),
             routes: Routes::new(alloc),
             parts,
             format,
@@ -85,7 +84,7 @@ impl Splitter {
     fn step<W: Write + Drop>(&mut self, outlets: &mut [Outlet<W>]) -> Result<bool, SplitFault>
         ensures on { (octets : List ℕ) (records : List Record) (h : List Item) → IsSplitting self.old octets records h
             → OnOk result (SplitsOn W.contents outlets.old outlets.new self.old self.new octets records h) }
-        ensures shrinks { result ≡ Ok true → unread self.new.reader.reader < unread self.old.reader.reader }
+        ensures shrinks { result ≡ Ok true → unread self.new.reader < unread self.old.reader }
     {
         if !self.read()? {
             return Ok(false);
@@ -101,8 +100,8 @@ impl Splitter {
     fn read(&mut self) -> Result<bool, SplitFault>
         ensures read { (octets : List ℕ) (records : List Record) (h : List Item) → IsSplitting self.old octets records h
             → IfOk result (λ found. HasRead found self.new octets records h) }
-        ensures lends { result ≡ Ok true → HasItem self.new.reader.reader }
-        ensures shrinks { result ≡ Ok true → unread self.new.reader.reader < unread self.old.reader.reader }
+        ensures lends { result ≡ Ok true → HasItem self.new.reader }
+        ensures shrinks { result ≡ Ok true → unread self.new.reader < unread self.old.reader }
         ensures parts { self.new.parts ≡ self.old.parts }
         ensures format { self.new.format ≡ self.old.format }
     {
@@ -120,14 +119,16 @@ impl Splitter {
 
     // The part of the record that was read last.
     fn routed(&mut self) -> Result<usize, SplitFault>
-        requires { HasItem self.old.reader.reader }
-        ensures routed { (h : List Item) (item : Item) → RoutesAs (part_by self.old.parts) self.old.routes h → Lends self.old.reader.reader item
+        requires { HasItem self.old.reader }
+        ensures routed { (h : List Item) (item : Item) → RoutesAs (part_by self.old.parts) self.old.routes h
+            → Lends self.old.reader item
             → IfOk result (IsRouted (part_by self.old.parts) self.new.routes h item) }
         ensures reader { self.new.reader ≡ self.old.reader }
         ensures parts { self.new.parts ≡ self.old.parts }
         ensures format { self.new.format ≡ self.old.format }
     {
-        match self.routes.route(&self.parts, self.reader.item()) {
+        let view = self.reader.view();
+        match self.routes.route(&self.parts, &view) {
             Ok(part) => Ok(part),
             Err(RouteFault::Memory) => Err(SplitFault::Memory),
             Err(RouteFault::Apart) => Err(SplitFault::Changed),

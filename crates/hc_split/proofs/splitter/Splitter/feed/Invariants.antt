@@ -12,4 +12,4 @@ invariant-records g l =
     → SplitsOn g.W.Write.contents l.initial.outlets l.outlets l.initial.self l.self octets records h
 
 abbrev pub decreases-records : goal.decreases-records
-decreases-records g l = unread l.self.reader.reader
+decreases-records g l = unread l.self.reader
