@@ -29,7 +29,7 @@ impl Drop for Page {
     }
 }
 
-fn lines_of(field: FieldOf<'_>) -> u64 {
+fn lines_of(field: &FieldOf<'_>) -> u64 {
     let mut lines: u64 = 0;
     for _line in field.fields.values(field.name) {
         lines = lines.saturating_add(1);
@@ -111,7 +111,7 @@ impl Page {
     }
 
     /// Writes what a message has of a field, with its lines joined by a comma and a space. Returns whether it has any.
-    pub fn joined(&mut self, field: FieldOf<'_>) -> bool {
+    pub fn joined(&mut self, field: &FieldOf<'_>) -> bool {
         match joined(self.alloc, field) {
             Ok(Some(value)) => self.shown_value(field.name, value.as_slice()),
             Ok(None) => return false,
@@ -128,7 +128,7 @@ impl Page {
 }
 
 // The lines of a field joined, where there are any. Its name may be in any case.
-fn joined(alloc: Global, field: FieldOf<'_>) -> Result<Option<Octets>, AllocError> {
+fn joined(alloc: Global, field: &FieldOf<'_>) -> Result<Option<Octets>, AllocError> {
     let name = field.name.to_ascii_lowercase(alloc)?;
     field.fields.joined(alloc, name.as_slice())
 }
@@ -170,7 +170,7 @@ impl Teller for Page {
         self.words(after);
     }
 
-    fn said_value(&mut self, field: FieldOf<'_>) {
+    fn said_value(&mut self, field: &FieldOf<'_>) {
         if !self.joined(field) {
             self.words("none");
         }
@@ -202,7 +202,7 @@ impl Teller for Page {
         self.shown_value(b"", octets);
     }
 
-    fn values(&mut self, _: &'static str, before: &str, field: FieldOf<'_>) {
+    fn values(&mut self, _: &'static str, before: &str, field: &FieldOf<'_>) {
         self.words(before);
         let lines = lines_of(field);
         if lines == 0 {

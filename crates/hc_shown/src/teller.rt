@@ -1,7 +1,7 @@
 //! Who is told facts: a text, or the members of an object.
 
 use crate::page::Page;
-use hc_fields::Fields;
+use hc_fields::{FieldsView, Lines};
 use hc_head::Method;
 use hc_transcript::Kind;
 
@@ -32,18 +32,21 @@ impl RecordName {
 }
 
 /// What a message has of a field: nothing, or its lines.
-#[derive(Clone, Copy)]
+#[derive(Drop)]
 pub struct FieldOf<'a> {
     /// The name, in any case.
     pub name: &'a [u8],
     /// The fields of the message.
-    pub fields: &'a Fields,
+    pub fields: FieldsView<'a>,
 }
 
 impl<'a> FieldOf<'a> {
     /// That field of those.
-    pub fn new(name: &'a [u8], fields: &'a Fields) -> Self {
-        FieldOf { name, fields }
+    pub fn new<L: Lines>(name: &'a [u8], fields: &'a L) -> Self {
+        FieldOf {
+            name,
+            fields: fields.lent(),
+        }
     }
 }
 
@@ -72,7 +75,7 @@ pub trait Teller {
     fn said_octets(&mut self, _before: &str, _octets: &[u8], _after: &str) {}
 
     /// What a message has of a field, with its lines joined, or `none`. A text alone has it.
-    fn said_value(&mut self, _field: FieldOf<'_>) {}
+    fn said_value(&mut self, _field: &FieldOf<'_>) {}
 
     /// Spaces up to the 16th column of a line, and one at least. A text alone has them.
     fn fill(&mut self) {}
@@ -90,7 +93,7 @@ pub trait Teller {
     fn flag(&mut self, _name: &'static str, _flag: bool) {}
 
     /// What a message has of a field, with its lines joined, or null, which an object alone has.
-    fn known(&mut self, _name: &'static str, _field: FieldOf<'_>) {}
+    fn known(&mut self, _name: &'static str, _field: &FieldOf<'_>) {}
 
     /// What is written on a page.
     fn said(&mut self, name: &'static str, page: Page);
@@ -130,14 +133,14 @@ pub trait Teller {
     fn quoted(&mut self, name: &'static str, octets: &[u8]);
 
     /// What a message has of a field, in a text after another, with its lines joined.
-    fn value(&mut self, name: &'static str, before: &str, field: FieldOf<'_>) {
+    fn value(&mut self, name: &'static str, before: &str, field: &FieldOf<'_>) {
         self.words(before);
         self.said_value(field);
         self.known(name, field);
     }
 
     /// The same, each line by itself.
-    fn values(&mut self, name: &'static str, before: &str, field: FieldOf<'_>);
+    fn values(&mut self, name: &'static str, before: &str, field: &FieldOf<'_>);
 
     /// A method, in a text between two others.
     fn method(&mut self, name: &'static str, before: &str, method: &Method, after: &str) {
