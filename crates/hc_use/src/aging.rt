@@ -10,7 +10,7 @@ ghost use Rattle.hc_use.specs.Trusting.{age_by_age_alone};
 
 use crate::demand::Demand;
 use crate::usage::is_read;
-use hc_fields::{Fields, LARGEST_NUMBER, number};
+use hc_fields::{FieldsView, LARGEST_NUMBER, number};
 use hc_fresh::{Times, explicit};
 use hc_head::StatusCode;
 use hc_history::{ReplyClaim, age_of, lifetime_of};
@@ -90,7 +90,7 @@ pub struct Aged {
 }
 
 // What the Age lines among those fields tell.
-fn age_told(fields: &Fields) -> AgeTold
+fn age_told(fields: &FieldsView<'_>) -> AgeTold
     ensures { IsAgeTold (values_of (codes "age") fields.now) result }
 {
     let mut values = fields.values(b"age");
@@ -122,7 +122,7 @@ pub fn age_gap(claim: &ReplyClaim<'_>, state: &Stored) -> AgeGap
 {
     let (slack, own) = (claim.settings.slack, claim.settings.allowed.age_slack);
     AgeGap {
-        told: age_told(&claim.reply.head.fields),
+        told: age_told(claim.fields()),
         due: age_of(claim, state),
         parts: age_parts(claim, state),
         slack: slack.max(own),
@@ -166,7 +166,7 @@ pub(crate) fn say_slack<T: Teller>(slack: u32, by_option: &str, teller: &mut T) 
 }
 
 // Whether a recorder says that it wrote the Age of the reply of those fields, by its Date.
-fn is_by_recorder(reply: &Fields) -> bool {
+fn is_by_recorder(reply: &FieldsView<'_>) -> bool {
     for member in reply.members(b"cache-status") {
         if member == b"recorder;age-by-date".as_slice() {
             return true;
@@ -292,7 +292,7 @@ impl AgeGap {
 
     // Tells the seconds that the reply of those fields has, whether the recorder wrote them, and what would be due counted from
     // the arrival of the response alone, if that is something else.
-    fn tell_seconds<T: Teller>(&self, told: u32, reply: &Fields, teller: &mut T) {
+    fn tell_seconds<T: Teller>(&self, told: u32, reply: &FieldsView<'_>, teller: &mut T) {
         let by_option = if self.is_own_slack {
             " by --age-slack)"
         } else {
@@ -312,7 +312,7 @@ impl AgeGap {
 
     /// Tells the Age that is due, with its sum, and the one that the reply of those fields tells; and that the Age with which the
     /// response came counts no more since a 304, whose own counts as so much.
-    pub fn tell<T: Teller>(&self, reply: &Fields, origin: AgeOrigin, teller: &mut T) {
+    pub fn tell<T: Teller>(&self, reply: &FieldsView<'_>, origin: AgeOrigin, teller: &mut T) {
         teller.number("due", "age: due ", u64::from(self.due), "");
         teller.fact("slack", u64::from(self.slack));
         self.parts.tell(origin, teller);
@@ -326,7 +326,7 @@ impl AgeGap {
             AgeTold::Seconds(_) => {}
             AgeTold::Missing => teller.words("none"),
             AgeTold::Several => teller.words("several lines"),
-            AgeTold::Unreadable => teller.said_value(FieldOf::new(b"age", reply)),
+            AgeTold::Unreadable => teller.said_value(&FieldOf::new(b"age", reply)),
         }
         let Some(aged) = origin.aged else {
             return;
