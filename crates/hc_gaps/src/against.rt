@@ -201,11 +201,11 @@ impl Against {
         let (name, of, validator) = telling.names();
         let (told, due) = telling.sides(stored, forwarded, received);
         teller.words(name);
-        teller.value("told", " ", told);
+        teller.value("told", " ", &told);
         teller.words(of);
         teller.words(", the stored response's ");
         teller.words(validator);
-        teller.value("due", " ", due);
+        teller.value("due", " ", &due);
     }
 }
 

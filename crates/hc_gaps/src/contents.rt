@@ -2,10 +2,11 @@
 
 ghost use Rattle.std.specs.Prelude.{◌≡◌, codes};
 ghost use Rattle.hc_rules.specs.Conditions.{only_date};
-ghost use Rattle.hc_gaps.specs.Contents.{IsContentGap, body_gap_of, has_body, in_common};
+ghost use Rattle.hc_gaps.specs.Contents.{IsContentGap, body_gap_of, has_body};
 ghost use Rattle.hc_gaps.specs.Demanding.{content_sections, failing_sections, found_sections, gap_sections, is_by_date, is_of_success, is_transformed, unearned_sections};
 
 use hc_fields::Fields;
+use hc_framing::BodyView;
 use hc_fresh::{read_date, says};
 use hc_head::{Method, StatusCode, is_head};
 use hc_history::ReplyClaim;
@@ -74,29 +75,19 @@ pub struct ContentGap {
     bodies: Option<BodyGap>,
 }
 
-// How many octets both begin with.
-fn octets_in_common(one: &[u8], other: &[u8]) -> u64
-    ensures { result ≡ in_common one.now other.now }
-{
-    one.iter()
-        .zip(other.iter())
-        .take_while(|pair| pair.0 == pair.1)
-        .count() as u64
-}
-
 /// Whether the reply to a request of that method has the body that is due, or none where the request is HEAD.
-pub fn has_body(method: &Method, told: &[u8], due: &[u8]) -> bool
+pub fn has_body(method: &Method, told: &BodyView<'_>, due: &[u8]) -> bool
     ensures { result ≡ has_body method.now told.now due.now }
 {
     if is_head(method) {
         told.is_empty()
     } else {
-        told == due
+        told.equals(due)
     }
 }
 
 /// How the body of the reply to a request of that method differs from the one that is due, if it does.
-pub fn body_gap(method: &Method, told: &[u8], due: &[u8]) -> Option<BodyGap>
+pub fn body_gap(method: &Method, told: &BodyView<'_>, due: &[u8]) -> Option<BodyGap>
     ensures { result ≡ body_gap_of method.now told.now due.now }
 {
     if has_body(method, told, due) {
@@ -106,7 +97,7 @@ pub fn body_gap(method: &Method, told: &[u8], due: &[u8]) -> Option<BodyGap>
         is_head: is_head(method),
         due: due.len() as u64,
         told: told.len() as u64,
-        agreed: octets_in_common(told, due),
+        agreed: told.agreed_len(due) as u64,
     })
 }
 
@@ -184,7 +175,7 @@ fn unearned(claim: &ReplyClaim<'_>, state: &Stored) -> Content
 fn is_transformed(claim: &ReplyClaim<'_>, state: &Stored) -> bool
     ensures { result ≡ is_transformed claim.now state.now }
 {
-    let status = claim.reply.head.status;
+    let status = claim.status();
     status == StatusCode::NON_AUTHORITATIVE_INFORMATION
         && state.status == StatusCode::OK
         && !says(b"no-transform", &state.fields)
@@ -194,8 +185,8 @@ fn is_transformed(claim: &ReplyClaim<'_>, state: &Stored) -> bool
 fn content_of(claim: &ReplyClaim<'_>, state: &Stored) -> Content
     ensures { found_sections result ≡ content_sections claim.now state.now }
 {
-    let status = claim.reply.head.status;
-    if status == StatusCode::NOT_MODIFIED && claim.reply.body.is_empty() {
+    let status = claim.status();
+    if status == StatusCode::NOT_MODIFIED && claim.body().is_empty() {
         return unearned(claim, state);
     }
     if status == StatusCode::RANGE_NOT_SATISFIABLE && claim.settings.allowed.ranges {
@@ -217,12 +208,11 @@ fn content_of(claim: &ReplyClaim<'_>, state: &Stored) -> Content
 pub fn content_gap(claim: &ReplyClaim<'_>, state: &Stored) -> ContentGap
     ensures { IsContentGap claim.now state.now result }
 {
-    let body = claim.reply.body.as_slice();
     ContentGap {
         content: content_of(claim, state),
         due: state.status,
-        told: claim.reply.head.status,
-        bodies: body_gap(&claim.request.method, body, state.body.as_slice()),
+        told: claim.status(),
+        bodies: body_gap(&claim.request.method, claim.body(), state.body.as_slice()),
     }
 }
 
@@ -274,17 +264,17 @@ fn tell_condition<T: Teller>(
 ) {
     let field = FieldOf::new(asked.as_bytes(), &claim.request.fields);
     teller.words(asked);
-    teller.value(asked, " ", field);
+    teller.value(asked, " ", &field);
     let field = FieldOf::new(validator.as_bytes(), &state.fields);
     teller.words(between);
     teller.words(validator);
-    teller.value(validator, " ", field);
+    teller.value(validator, " ", &field);
 }
 
 // Tells after a text of which part the reply tells, and how long the whole is.
 fn tell_range<T: Teller>(before: &str, (claim, state): Pair<'_>, teller: &mut T) {
-    let range = FieldOf::new(b"content-range", &claim.reply.head.fields);
-    teller.value("content-range", before, range);
+    let range = FieldOf::new(b"content-range", claim.fields());
+    teller.value("content-range", before, &range);
     teller.fact("whole_octets", state.body.len() as u64);
 }
 

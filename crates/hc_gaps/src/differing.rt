@@ -8,7 +8,7 @@ ghost use Rattle.hc_gaps.specs.declared.differing.Change.TheVariants.{Changed};
 ghost use Rattle.hc_gaps.specs.declared.differing.Freedom.TheVariants.{Nothing};
 
 use crate::forms::{means_the_same, need_not_be_stored};
-use hc_fields::{Field, Fields, Octets, is_among};
+use hc_fields::{Fields, FieldsView, Lines, Octets, is_among};
 use hc_fresh::date_stated;
 use hc_head::StatusCode;
 use hc_history::{ReplyClaim, differs, is_of_content};
@@ -99,12 +99,13 @@ fn push_new<'a>(names: &mut Vec<&'a [u8]>, name: &'a [u8]) -> Result<(), AllocEr
 }
 
 // Puts the names of the lines at the end that aren't there.
-fn push_names<'a>(names: &mut Vec<&'a [u8]>, lines: &'a [Field]) -> Result<(), AllocError>
+fn push_names<'a>(names: &mut Vec<&'a [u8]>, fields: &FieldsView<'a>) -> Result<(), AllocError>
     ensures { OnOk result (map (λ known. known.now) names.new.items
-        ≡ with_names (map (λ known. known.now) names.old.items) (names_of lines.now)) }
+        ≡ with_names (map (λ known. known.now) names.old.items) (names_of fields.now)) }
 {
-    for line in lines {
-        push_new(names, line.name.as_slice())?;
+    let mut rest = fields.again();
+    while let Some((name, _)) = rest.pass() {
+        push_new(names, name)?;
     }
     Ok(())
 }
@@ -119,9 +120,9 @@ fn push_compared<'a>(
     ensures { OnOk result (map (λ known. known.now) names.new.items
         ≡ with_names (map (λ known. known.now) names.old.items) (compared_names claim.now state.now)) }
 {
-    push_names(names, claim.reply.head.fields.lines())?;
-    if claim.reply.head.status != StatusCode::NOT_MODIFIED {
-        return push_names(names, state.fields.lines());
+    push_names(names, claim.fields())?;
+    if claim.status() != StatusCode::NOT_MODIFIED {
+        return push_names(names, &state.fields.lent());
     }
     for name in &REPEATED_NAMES {
         push_new(names, name)?;
@@ -133,7 +134,7 @@ fn push_compared<'a>(
 fn change_of(claim: &ReplyClaim<'_>, state: &Stored, name: &[u8]) -> Change
     ensures { result ≡ change_of claim.now state.now name.now }
 {
-    if !claim.reply.head.fields.contains(name) {
+    if !claim.fields().contains(name) {
         Change::Dropped
     } else if state.fields.contains(name) {
         Change::Changed
@@ -168,7 +169,7 @@ fn freedom_of_form(
     if is_single(name) {
         return Ok(Freedom::Nothing);
     }
-    let (told, due) = (&claim.reply.head.fields, &state.fields);
+    let (told, due) = (claim.fields(), &state.fields.lent());
     let is_form = means_the_same(alloc, name, told, due, false)?;
     Ok(permitted(is_form, Freedom::Form))
 }
@@ -379,10 +380,10 @@ impl FieldGap {
         let name = self.name.as_slice();
         teller.octets("name", "", name);
         teller.word("change", self.change.word());
-        teller.values("due", ": due ", FieldOf::new(name, &state.fields));
+        teller.values("due", ": due ", &FieldOf::new(name, &state.fields));
         origin.say(name, &state.fields, teller);
-        let told = FieldOf::new(name, &claim.reply.head.fields);
-        teller.values("told", ", the reply has ", told);
+        let told = FieldOf::new(name, claim.fields());
+        teller.values("told", ", the reply has ", &told);
     }
 }
 

@@ -6,7 +6,7 @@ ghost use Rattle.std.specs.Str.{str_eq_ignore_ascii_case};
 ghost use Rattle.hc_fields.specs.Lists.{is_blank, list_members, members_of};
 ghost use Rattle.hc_gaps.specs.Forms.{argument_in, behind_directive, has_any_case, has_argument, is_bare, is_preference, is_said_of, is_separator, is_space, leaves_out, means_the_same, names_common, need_not_be_stored, place_behind, same_lines, same_meaning, same_members, separates, tight_form, tight_lines, unquoted};
 
-use hc_fields::{Fields, is_among, list_members};
+use hc_fields::{Fields, FieldsView, is_among, list_members};
 use std::alloc::{AllocError, Global};
 
 /// The fields that are lists without an order, in which letters may be of either case (RFC 9110 section 12.5).
@@ -104,7 +104,7 @@ fn tight_form(alloc: Global, octets: &[u8]) -> Result<Vec<u8>, AllocError>
 }
 
 // What those fields have of a name in lower case in that form; nothing where they have none.
-fn tight_lines(alloc: Global, name: &[u8], fields: &Fields) -> Result<Vec<u8>, AllocError>
+fn tight_lines(alloc: Global, name: &[u8], fields: &FieldsView<'_>) -> Result<Vec<u8>, AllocError>
     ensures { IfOk result (λ tight. tight.items ≡ tight_lines name.now fields.now) }
 {
     match fields.joined(alloc, name)? {
@@ -163,8 +163,8 @@ fn is_preference(is_selector: bool, name: &[u8]) -> bool
 fn same_lines(
     alloc: Global,
     name: &[u8],
-    one: &Fields,
-    other: &Fields,
+    one: &FieldsView<'_>,
+    other: &FieldsView<'_>,
     is_selector: bool,
 ) -> Result<bool, AllocError>
     ensures { IfOk result (λ same. same ≡ same_lines name.now one.now other.now is_selector) }
@@ -188,8 +188,8 @@ fn same_lines(
 pub fn means_the_same(
     alloc: Global,
     name: &[u8],
-    one: &Fields,
-    other: &Fields,
+    one: &FieldsView<'_>,
+    other: &FieldsView<'_>,
     is_selector: bool,
 ) -> Result<bool, AllocError>
     ensures { IfOk result (λ same. same ≡ means_the_same name.now one.now other.now is_selector) }
@@ -206,11 +206,12 @@ fn is_same(one: &[u8], other: &[u8]) -> bool
 }
 
 // Whether a field of that name, in any case, is among those.
-fn has_any_case(name: &[u8], fields: &Fields) -> bool
+fn has_any_case(name: &[u8], fields: &FieldsView<'_>) -> bool
     ensures { result ≡ has_any_case name.now fields.now }
 {
-    for line in fields.lines() {
-        if is_same(line.name.as_slice(), name) {
+    let mut rest = fields.again();
+    while let Some((one, _)) = rest.pass() {
+        if is_same(one, name) {
             return true;
         }
     }
@@ -289,7 +290,12 @@ fn is_bare(directive: &[u8], member: &[u8]) -> bool
 }
 
 // Whether a member says that directive of a field that both have.
-fn names_common(directive: &[u8], response: &Fields, reply: &Fields, member: &[u8]) -> bool
+fn names_common(
+    directive: &[u8],
+    response: &FieldsView<'_>,
+    reply: &FieldsView<'_>,
+    member: &[u8],
+) -> bool
     ensures { result ≡ names_common directive.now response.now reply.now member.now }
 {
     let Some(argument) = argument_in(directive, member) else {
@@ -311,7 +317,7 @@ fn has_argument(directive: &[u8], member: &[u8]) -> bool
 }
 
 // Whether those of a response say that directive of some fields.
-fn is_said(directive: &[u8], response: &Fields) -> bool
+fn is_said(directive: &[u8], response: &FieldsView<'_>) -> bool
     ensures { result ≡ list_any (has_argument directive.now) (members_of (codes "cache-control") response.now) }
 {
     for member in response.members(b"cache-control") {
@@ -325,7 +331,7 @@ fn is_said(directive: &[u8], response: &Fields) -> bool
 /// Whether those of a response say that directive of some fields alone, of which the reply to which these belong has none that
 /// the response has (RFC 9111 sections 5.2.2.4 and 5.2.2.7).
 #[tactic(auto, unfolding(crate::specs::Forms::leaves_out))]
-pub fn leaves_out(directive: &[u8], response: &Fields, reply: &Fields) -> bool
+pub fn leaves_out(directive: &[u8], response: &FieldsView<'_>, reply: &FieldsView<'_>) -> bool
     ensures { result ≡ leaves_out directive.now response.now reply.now }
 {
     if !is_said(directive, response) {

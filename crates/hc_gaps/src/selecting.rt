@@ -5,7 +5,7 @@ ghost use Rattle.hc_gaps.specs.Demanding.{has_named_other, has_other, has_star, 
 ghost use Rattle.hc_gaps.specs.Selecting.{AreNamed, AreUnmet, is_unmet};
 
 use crate::forms::means_the_same;
-use hc_fields::{Octets, is_token};
+use hc_fields::{Lines, Octets, is_token};
 use hc_history::{ReplyClaim, is_met_or_normalized};
 use hc_shown::{FieldOf, Page, RecordName, Teller};
 use hc_update::Stored;
@@ -81,7 +81,7 @@ impl Selection {
             return Ok(());
         }
         let (answered, asked) = (&state.request.fields, &claim.request.fields);
-        let is_form = means_the_same(alloc, member, answered, asked, true)?;
+        let is_form = means_the_same(alloc, member, &answered.lent(), &asked.lent(), true)?;
         self.unmet.push(UnmetMember {
             member: Octets::from_slice(alloc, member)?,
             is_name: is_token(member) && member != b"*".as_slice(),
@@ -190,12 +190,12 @@ impl Selection {
                     teller.record("", sent);
                     teller.words(" ");
                 }
-                teller.value("answered", "has ", answered);
-                teller.value("asked", ", this request has ", asked);
+                teller.value("answered", "has ", &answered);
+                teller.value("asked", ", this request has ", &asked);
             } else {
                 teller.words(", which selects no request");
-                teller.known("answered", answered);
-                teller.known("asked", asked);
+                teller.known("answered", &answered);
+                teller.known("asked", &asked);
             }
             teller.end();
             is_first = false;

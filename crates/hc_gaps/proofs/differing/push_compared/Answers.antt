@@ -17,7 +17,7 @@ returns-then-ne c =
     subst (λ (all : List (List ℕ)). OnOk c.push_names-then-ne.result (plain c.push_names-then-ne.new.names.items ≡ all))
     (ap (λ (names : List (List ℕ)). with_names names (names_of state.fields)) first ∙ of_other before claim state is)
     (subst (λ (lines : List Field). OnOk c.push_names-then-ne.result (plain c.push_names-then-ne.new.names.items ≡ with_names (plain c.push_names.new.names.items) (names_of lines)))
-    c.lines-then-ne.ensures c.push_names-then-ne.ensures)
+    c.lent.ensures c.push_names-then-ne.ensures)
 
 pub loop-name-init : goal.loop-name-init
 loop-name-init c =
