@@ -5,7 +5,7 @@ ghost use Rattle.std.specs.Iterator.{YieldsFirstRef, item_count};
 ghost use Rattle.std.specs.List.{concat, flat_map};
 ghost use Rattle.hc_framing.specs.Pieces.{AreInOrder, in_common, piece_at};
 
-use hc_fields::Octets;
+use hc_fields::{Octets, SharedOctets};
 use std::alloc::{AllocError, Global};
 use std::marker::Model;
 
@@ -221,6 +221,13 @@ impl<'a> BodyView<'a> {
             Some(behind) => self.one.len() + pieces_in_common(self.octets, self.pieces, behind),
             None => octets_in_common(self.one, other),
         }
+    }
+
+    /// The octets of the body in memory of their own, which may have more owners.
+    pub fn copy_shared(&self, alloc: Global) -> Result<SharedOctets, AllocError>
+        ensures { IfOk result (λ o. o ≡ self.now) }
+    {
+        SharedOctets::from_vec(alloc, self.copy(alloc)?.into_vec())
     }
 
     /// The octets of the body in memory of their own.

@@ -43,13 +43,6 @@ pub type RequestView<'a> = MessageView<'a, RequestHeadView<'a>>;
 /// A response that is lent.
 pub type ResponseView<'a> = MessageView<'a, ResponseHeadView<'a>>;
 
-/// The octets of a body in memory of their own, which may have more owners.
-fn shared(alloc: Global, body: &BodyView<'_>) -> Result<SharedOctets, AllocError>
-    ensures { IfOk result (λ octets. octets ≡ body.now) }
-{
-    SharedOctets::from_vec(alloc, body.copy(alloc)?.into_vec())
-}
-
 /// The same request in memory of its own.
 pub fn copy_request(
     alloc: Global,
@@ -59,7 +52,7 @@ pub fn copy_request(
 {
     Ok(Message {
         head: request.head.copy(alloc)?,
-        body: shared(alloc, &request.body)?,
+        body: request.body.copy_shared(alloc)?,
     })
 }
 
@@ -72,7 +65,7 @@ pub fn copy_response(
 {
     Ok(Message {
         head: response.head.copy(alloc)?,
-        body: shared(alloc, &response.body)?,
+        body: response.body.copy_shared(alloc)?,
     })
 }
 

@@ -4,21 +4,22 @@ ghost use Rattle.std.specs.Prelude.{◌≡◌, ◌&&◌, ◌||◌, not, [], None
 ghost use Rattle.hc_use.specs.Forbidding.{forbids_nothing, forbids_of};
 ghost use Rattle.std.specs.Option.{option_map};
 ghost use Rattle.hc_head.specs.Targets.{same_target};
+ghost use Rattle.hc_transcript.specs.Items.{item_number, moment_of};
 ghost use Rattle.hc_transcript.specs.Records.{told_in};
 ghost use Rattle.hc_history.specs.Forwarded.{asks_the_same};
 
 use crate::window::asks_the_same;
 use hc_audit::PassedRecord;
 use hc_fields::{Fields, Octets, SharedOctets};
-use hc_framing::Message;
+use hc_framing::{BodyView, RequestView, ResponseView};
 use hc_gaps::has_body;
 use hc_head::{
-    Method, RequestHead, ResponseHead, StatusCode, Target, is_error_status, is_head, same_target,
+    Method, RequestHead, ResponseHead, ResponseHeadView, StatusCode, Target, is_error_status, is_head, same_target,
 };
 use hc_history::{ReplyClaim, carries, may_be_for};
 use hc_index::{Index, OpenForward};
 use hc_shown::RecordName;
-use hc_transcript::{Kind, Meaning, OwnedItem, ToldCause};
+use hc_transcript::{Kind, MeaningView, ToldCause};
 use hc_use::{Forbids, what_forbids};
 use lru::{DefaultHasher, LruCache};
 use std::alloc::{AllocError, Global};
@@ -134,7 +135,7 @@ pub fn copied_request(alloc: Global, head: &RequestHead) -> Result<RequestHead, 
 }
 
 // What forbids to store that answer to that request, if something does.
-fn forbidden_by(request: &RequestHead, answer: &ResponseHead) -> Option<Forbids>
+fn forbidden_by(request: &RequestHead, answer: &ResponseHeadView<'_>) -> Option<Forbids>
     ensures { result ≡ (if forbids_nothing (forbids_of request.now answer.now) then None else Some (forbids_of request.now answer.now)) }
 {
     let forbids = what_forbids(request, answer);
@@ -154,13 +155,13 @@ fn has_forgotten(before: bool, is_known: bool, is_pushed: bool) -> bool
 
 // The record that passed, of that kind.
 fn record_of<I>(passed: &PassedRecord<'_, I>, kind: Kind) -> RecordName
-    ensures { result ≡ record { position = passed.now.position; kind = kind; number = passed.now.item.now.number; moment = passed.now.item.now.moment } }
+    ensures { result ≡ record { position = passed.now.position; kind = kind; number = item_number passed.now.item.now; moment = moment_of passed.now.item.now } }
 {
     RecordName {
         position: passed.position,
         kind,
-        number: passed.item.number,
-        moment: passed.item.moment,
+        number: passed.item.number(),
+        moment: passed.item.moment(),
     }
 }
 
@@ -235,14 +236,14 @@ impl Past {
             → OnOk result (HasAsked target (item_passed passed.now ∷ h) self.new) }
     {
         match &passed.item.of {
-            Meaning::OriginRequest { target, .. } => self.take_sent(passed, target),
-            Meaning::ClientRequest { target, request } => self.take_asked(passed, target, request),
-            Meaning::OriginResponse(response) => {
+            MeaningView::OriginRequest { target, .. } => self.take_sent(passed, target),
+            MeaningView::ClientRequest { target, request } => self.take_asked(passed, target, request),
+            MeaningView::OriginResponse(response) => {
                 self.take(passed, Kind::OriginResponse, Some(response))
             }
-            Meaning::OriginFailure => self.take(passed, Kind::OriginFailure, None),
-            Meaning::ClientReply(_) => {
-                self.answer(passed.item.number, passed.position);
+            MeaningView::OriginFailure => self.take(passed, Kind::OriginFailure, None),
+            MeaningView::ClientReply(_) => {
+                self.answer(passed.item.number(), passed.position);
                 Ok(())
             }
         }
@@ -256,12 +257,12 @@ impl Past {
     ) -> Result<(), AllocError>
         ensures ends { (one : Target) (ends : List EndSeen) → Remembers one ends self.old → Remembers one ends self.new }
         ensures known { (h : List Item) (one : Target) (request : Message RequestHead) (cause : Option ℕ) → IsKnownOf one h self.old → passed.now.position ≡ next_position h
-            → OnOk result (IsKnownOf one (OriginRequest passed.now.item.now.number passed.now.item.now.moment request target.now cause ∷ h) self.new) }
+            → OnOk result (IsKnownOf one (OriginRequest (item_number passed.now.item.now) (moment_of passed.now.item.now) request target.now cause ∷ h) self.new) }
         ensures latest { (most : ℕ) (ends : List EndSeen) → RemembersLatest most ends self.old → RemembersLatest most ends self.new }
         ensures forbidden { (all : List (Target × Forbids)) → RemembersForbidden all self.old → RemembersForbidden all self.new }
         ensures asked { (h : List Item) (one : Target) → HasAsked one h self.old → HasAsked one h self.new }
     {
-        let number = passed.item.number;
+        let number = passed.item.number();
         if !self.is_of_one(target) {
             self.sent.remove(&number);
             return Ok(());
@@ -276,16 +277,16 @@ impl Past {
         &mut self,
         passed: &PassedRecord<'_, I>,
         target: &Target,
-        request: &Message<RequestHead>,
+        request: &RequestView<'_>,
     ) -> Result<(), AllocError>
         ensures ends { (one : Target) (ends : List EndSeen) → Remembers one ends self.old → Remembers one ends self.new }
         ensures known { (one : Target) (sent : ℕ → Option RecordName) (known : List EndKnown) → RemembersKnown one sent known self.old → RemembersKnown one sent known self.new }
         ensures latest { (most : ℕ) (ends : List EndSeen) → RemembersLatest most ends self.old → RemembersLatest most ends self.new }
         ensures forbidden { (all : List (Target × Forbids)) → RemembersForbidden all self.old → RemembersForbidden all self.new }
         ensures asked { (h : List Item) (one : Target) → HasAsked one h self.old → passed.now.position ≡ next_position h
-            → OnOk result (HasAsked one (ClientRequest passed.now.item.now.number passed.now.item.now.moment request.now target.now ∷ h) self.new) }
+            → OnOk result (HasAsked one (ClientRequest (item_number passed.now.item.now) (moment_of passed.now.item.now) request.now target.now ∷ h) self.new) }
     {
-        let number = passed.item.number;
+        let number = passed.item.number();
         if !self.is_of_one(target) {
             drop(self.asked.remove(&number));
             return Ok(());
@@ -338,22 +339,22 @@ impl Past {
         &mut self,
         passed: &PassedRecord<'_, I>,
         kind: Kind,
-        response: Option<&Message<ResponseHead>>,
+        response: Option<&ResponseView<'_>>,
     ) -> Result<(), AllocError>
         ensures asked { (h : List Item) (one : Target) → HasAsked one h self.old → HasAsked one h self.new }
         ensures forbidden { (h : List Item) (all : List (Target × Forbids)) → RemembersForbidden all self.old → IsRecordBehind I.seen h passed.now
-            → OnOk result (RemembersForbidden (forbidden_to (option_copied response.entry) (forward_of passed.now.item.now.number h) all) self.new) }
+            → OnOk result (RemembersForbidden (forbidden_to (option_copied response.entry) (forward_of (item_number passed.now.item.now) h) all) self.new) }
         ensures known { (h : List Item) (one : Target) → IsKnownOf one h self.old → IsRecordBehind I.seen h passed.now
-            → OnOk result (RemembersKnown one (λ f. if passed.now.item.now.number == f then None else open_sent one.path h f)
-            (all_known_with one.path (sent_of passed.now.item.now.number h) (option_copied response.entry) (forward_of passed.now.item.now.number h) (all_known_of one.path h)) self.new) }
+            → OnOk result (RemembersKnown one (λ f. if (item_number passed.now.item.now) == f then None else open_sent one.path h f)
+            (all_known_with one.path (sent_of (item_number passed.now.item.now) h) (option_copied response.entry) (forward_of (item_number passed.now.item.now) h) (all_known_of one.path h)) self.new) }
         ensures latest { (h : List Item) (ends : List EndSeen) → RemembersLatest most_ends ends self.old → IsRecordBehind I.seen h passed.now
-            → OnOk result (RemembersLatest most_ends (any_ends_with (named_as kind passed.now.position passed.now.item.now.number passed.now.item.now.moment)
-            (cause_of passed.now.item.now.number h) (option_copied response.entry) (forward_of passed.now.item.now.number h) ends) self.new) }
+            → OnOk result (RemembersLatest most_ends (any_ends_with (named_as kind passed.now.position (item_number passed.now.item.now) (moment_of passed.now.item.now))
+            (cause_of (item_number passed.now.item.now) h) (option_copied response.entry) (forward_of (item_number passed.now.item.now) h) ends) self.new) }
         ensures ends { (h : List Item) (one : Target) (ends : List EndSeen) → Remembers one ends self.old → IsRecordBehind I.seen h passed.now
-            → OnOk result (Remembers one (ends_with one.path (named_as kind passed.now.position passed.now.item.now.number passed.now.item.now.moment) (cause_of passed.now.item.now.number h) (option_copied response.entry)
-            (forward_of passed.now.item.now.number h) ends) self.new) }
+            → OnOk result (Remembers one (ends_with one.path (named_as kind passed.now.position (item_number passed.now.item.now) (moment_of passed.now.item.now)) (cause_of (item_number passed.now.item.now) h) (option_copied response.entry)
+            (forward_of (item_number passed.now.item.now) h) ends) self.new) }
     {
-        let number = passed.item.number;
+        let number = passed.item.number();
         let Some(forward) = passed.index.forward(number) else {
             return Ok(());
         };
@@ -373,7 +374,7 @@ impl Past {
         &mut self,
         end: &mut End,
         request: &RequestHead,
-        response: Option<&Message<ResponseHead>>,
+        response: Option<&ResponseView<'_>>,
     ) -> Result<(), AllocError>
         ensures kept { (one : Target) (ends : List EndSeen) → Remembers one ends self.old → Remembers one ends self.new }
         ensures known { (one : Target) (sent : ℕ → Option RecordName) (known : List EndKnown) → RemembersKnown one sent known self.old → RemembersKnown one sent known self.new }
@@ -398,14 +399,14 @@ impl Past {
     }
 
     // The body of an answer, if it is remembered: of one target each is, and else one that isn't too long.
-    fn remembered_body(&self, body: &SharedOctets) -> Result<Option<SharedOctets>, AllocError>
+    fn remembered_body(&self, body: &BodyView<'_>) -> Result<Option<SharedOctets>, AllocError>
         ensures one { IsSome self.now.only → IfOk result (λ remembered. remembered ≡ Some body.now) }
         ensures all { self.now.only ≡ None → IfOk result (λ remembered. remembered ≡ short_body (Some body.now)) }
     {
         if self.only.is_none() && LONGEST_BODY < body.len() {
             return Ok(None);
         }
-        Ok(Some(body.share()?))
+        Ok(Some(body.copy_shared(self.alloc)?))
     }
 
     // The heads, if they are remembered.
@@ -413,7 +414,7 @@ impl Past {
         &self,
         cause: Option<u64>,
         request: &RequestHead,
-        head: &ResponseHead,
+        head: &ResponseHeadView<'_>,
     ) -> Result<Option<Heads>, AllocError>
         ensures { IsSome self.now.only → IfOk result (λ heads. heads_seen heads ≡ Some (record { forward = without_target request.now; response = head.now })) }
     {
@@ -427,11 +428,7 @@ impl Past {
         Ok(Some(Heads {
             asked,
             forward: copied_request(self.alloc, request)?,
-            response: ResponseHead {
-                status: head.status,
-                version: head.version,
-                fields: head.fields.copy(self.alloc)?,
-            },
+            response: head.copy(self.alloc)?,
         }))
     }
 

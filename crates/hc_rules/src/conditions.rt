@@ -73,11 +73,7 @@ fn is_not_later(modified: Option<u64>, since: Option<u64>) -> bool
 /// that status and those fields: whether its If-None-Match lists the response's tag or is `*`, or,
 /// without an If-None-Match, whether the response isn't later than its If-Modified-Since. It never
 /// does for another status than 200.
-pub fn client_condition<P: Lines, L: Lines>(
-    presented: &P,
-    status: StatusCode,
-    fields: &L,
-) -> bool
+pub fn client_condition<P: Lines, L: Lines>(presented: &P, status: StatusCode, fields: &L) -> bool
     ensures { result ≡ client_condition (P.lines presented.now) status (L.lines fields.now) }
 {
     condition_in(&presented.lent(), status, &fields.lent())

@@ -53,7 +53,11 @@ fn agree_by_members(name: &[u8], forwarded: &FieldsView<'_>, presented: &FieldsV
 }
 
 /// The lines of a name as one value, each trimmed.
-fn joined_lines(alloc: Global, name: &[u8], fields: &FieldsView<'_>) -> Result<Option<Octets>, AllocError>
+fn joined_lines(
+    alloc: Global,
+    name: &[u8],
+    fields: &FieldsView<'_>,
+) -> Result<Option<Octets>, AllocError>
     ensures { IfOk result (λ o. o ≡ joined_lines name.now fields.now) }
 {
     let mut values = fields.values(name);

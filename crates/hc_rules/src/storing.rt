@@ -7,7 +7,7 @@ ghost use Rattle.hc_rules.specs.Storing.{asks_for_storable, has_authorization, i
 
 use hc_directives::{Directives, KnownDirectives};
 use hc_fresh::explicit;
-use hc_head::{RequestHead, ResponseHead, StatusCode, is_get};
+use hc_head::{RequestHead, ResponseHead, ResponseHeadView, StatusCode, is_get};
 
 /// The statuses that may be stored where nothing says so (RFC 9110 section 15.1), but 206.
 const HEURISTICALLY_CACHEABLE: [StatusCode; 11] = [
@@ -88,7 +88,7 @@ pub fn permits_authorized(known: &KnownDirectives) -> bool
 }
 
 /// Whether the response says that it may be stored, or its status does (RFC 9111 section 3).
-pub fn invites_storing(known: &KnownDirectives, response: &ResponseHead) -> bool
+pub fn invites_storing(known: &KnownDirectives, response: &ResponseHeadView<'_>) -> bool
     ensures { result ≡ (known.now.public || is_heuristically_cacheable response.now.status || explicit response.now.fields) }
 {
     known.public || is_heuristically_cacheable(response.status) || explicit(&response.fields)
@@ -108,5 +108,5 @@ pub fn may_store(forward: &RequestHead, response: &ResponseHead) -> bool
         && no_store_permits(&known)
         && !known.private
         && (!has_authorization(forward) || permits_authorized(&known))
-        && invites_storing(&known, response)
+        && invites_storing(&known, &response.lent())
 }

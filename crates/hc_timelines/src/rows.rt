@@ -4,7 +4,7 @@ ghost use Rattle.std.specs.Prelude.{◌≡◌};
 ghost use Rattle.hc_timelines.specs.Rows.{class_of};
 
 use crate::changes::{Change, Standing};
-use hc_head::ResponseHead;
+use hc_head::ResponseHeadView;
 use hc_history::{Finding, Mark};
 use hc_html::{Class, Html, Tag};
 use hc_index::OpenForward;
@@ -81,7 +81,7 @@ fn copied(alloc: Global, page: &Page) -> Result<String, AllocError> {
 }
 
 /// Says what a response is: its status, to which method, and what it says of its lifetime.
-pub(crate) fn say_response(forward: &OpenForward, response: &ResponseHead, page: &mut Page) {
+pub(crate) fn say_response(forward: &OpenForward, response: &ResponseHeadView<'_>, page: &mut Page) {
     page.count("", u64::from(response.status.as_u16()), " to ");
     page.said_octets("", forward.request.method.as_slice(), "");
     for name in SAYING {

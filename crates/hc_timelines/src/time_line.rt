@@ -10,13 +10,13 @@ ghost use Rattle.hc_timelines.specs.Standings.{standing_of};
 use crate::changes::{Change, Standing, change_at, standing_of};
 use crate::rows::{Row, class_of, say_change, say_finding, say_forbidden, say_mark, say_response};
 use hc_audit::{JudgedReply, PassedRecord};
-use hc_head::{ResponseHead, StatusCode, Target, is_error_status, same_target};
+use hc_head::{ResponseHeadView, StatusCode, Target, is_error_status, same_target};
 use hc_history::{Mark, ReplyClaim};
 use hc_html::{Class, Html, Tag};
 use hc_index::{Index, OpenForward};
 use hc_past::named;
 use hc_shown::{RecordName, Teller};
-use hc_transcript::{Kind, Meaning};
+use hc_transcript::{Kind, MeaningView};
 use hc_use::what_forbids;
 use std::alloc::{AllocError, Global};
 use std::collections::VecDeque;
@@ -119,12 +119,12 @@ impl TimeLine {
             return Ok(());
         }
         match &passed.item.of {
-            Meaning::OriginResponse(response) => self.take_end(
+            MeaningView::OriginResponse(response) => self.take_end(
                 passed,
                 Kind::OriginResponse,
                 Some(&response.head),
             ),
-            Meaning::OriginFailure => self.take_end(passed, Kind::OriginFailure, None),
+            MeaningView::OriginFailure => self.take_end(passed, Kind::OriginFailure, None),
             _ => Ok(()),
         }
     }
@@ -134,10 +134,10 @@ impl TimeLine {
         &mut self,
         passed: &PassedRecord<'_, I>,
         kind: Kind,
-        response: Option<&ResponseHead>,
+        response: Option<&ResponseHeadView<'_>>,
     ) -> Result<(), AllocError> {
         let item = passed.item;
-        let Some(forward) = passed.index.forward(item.number) else {
+        let Some(forward) = passed.index.forward(item.number()) else {
             return Ok(());
         };
         if !same_target(&forward.target, &self.target) {
@@ -146,8 +146,8 @@ impl TimeLine {
         let named = RecordName {
             position: passed.position,
             kind,
-            number: item.number,
-            moment: item.moment,
+            number: item.number(),
+            moment: item.moment(),
         };
         let mut row = Row::new(self.alloc, named, Class::Failure);
         match response {
@@ -161,7 +161,7 @@ impl TimeLine {
     fn take_response(
         &mut self,
         forward: &OpenForward,
-        response: &ResponseHead,
+        response: &ResponseHeadView<'_>,
         row: &mut Row,
     ) -> Result<(), AllocError> {
         say_response(forward, response, &mut row.words);

@@ -1,7 +1,8 @@
 //! Records that are lent.
 
-ghost use Rattle.std.specs.Prelude.{◌≡◌, ℕ, IfOk};
-ghost use Rattle.hc_transcript.specs.Items.{item_of, item_seen, item_with};
+ghost use Rattle.std.specs.Prelude.{◌≡◌, ◌≤◌, ℕ, IfOk};
+ghost use Rattle.hc_transcript.specs.Limits.{greatest_moment};
+ghost use Rattle.hc_transcript.specs.Items.{item_number, item_of, item_seen, item_with, moment_of};
 
 use crate::item::{Meaning, OwnedItem};
 use hc_framing::{RequestView, ResponseView, copy_request, copy_response};
@@ -82,6 +83,21 @@ fn copy_meaning(alloc: Global, of: &MeaningView<'_>) -> Result<Meaning, AllocErr
 }
 
 impl<'a> RecordView<'a> {
+    /// The number of its exchange or its forward.
+    pub fn number(&self) -> u64
+        ensures { result ≡ item_number self.now }
+    {
+        self.number
+    }
+
+    /// Its moment, in whole seconds since 1970.
+    pub fn moment(&self) -> u64
+        ensures value { result ≡ moment_of self.now }
+        ensures in_time { result ≤ greatest_moment }
+    {
+        self.moment
+    }
+
     /// The same record in memory of its own.
     pub fn copy(&self, alloc: Global) -> Result<OwnedItem, AllocError>
         ensures { IfOk result (λ item. item_of item ≡ self.now) }

@@ -9,7 +9,7 @@ use crate::demand::{Demand, UNRECORDED};
 use hc_directives::Directives;
 use hc_fields::is_among;
 use hc_fresh::{explicit, says};
-use hc_head::{Method, RequestHead, ResponseHead, StatusCode, is_get, is_head};
+use hc_head::{Method, RequestHead, ResponseHeadView, StatusCode, is_get, is_head};
 use hc_rules::{invites_storing, is_storable, is_understood, permits_authorized};
 use hc_shown::Teller;
 
@@ -45,7 +45,7 @@ pub struct Forbids {
 
 // Whether the response to a request of that method isn't cacheable: to POST one is that states a lifetime, and has a
 // Content-Location (RFC 9110 section 9.3.3).
-fn is_uncacheable(method: &Method, response: &ResponseHead) -> bool
+fn is_uncacheable(method: &Method, response: &ResponseHeadView<'_>) -> bool
     ensures { result ≡ is_uncacheable method.now response.now }
 {
     let is_post = method.as_slice() == b"POST".as_slice();
@@ -62,7 +62,7 @@ fn is_partial(status: StatusCode) -> bool
 
 /// What forbids a shared cache to store the response to that request, which is the one that was sent to the origin.
 #[tactic(auto, using(hc_directives::proofs::KnownLemmas::seconds_are_there))]
-pub fn what_forbids(forward: &RequestHead, response: &ResponseHead) -> Forbids
+pub fn what_forbids(forward: &RequestHead, response: &ResponseHeadView<'_>) -> Forbids
     ensures each { result ≡ forbids_of forward.now response.now }
     // It may be stored where nothing forbids it.
     ensures stored { may_store forward.now response.now ≡ forbids_nothing result }
