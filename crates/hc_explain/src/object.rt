@@ -110,7 +110,7 @@ impl Teller for NestedObject {
         self.add(name, Ok(Value::from(flag)));
     }
 
-    fn known(&mut self, name: &'static str, field: FieldOf<'_>) {
+    fn known(&mut self, name: &'static str, field: &FieldOf<'_>) {
         let mut page = self.page();
         if page.joined(field) {
             self.said(name, page);
@@ -152,7 +152,7 @@ impl Teller for NestedObject {
         self.octets(name, "", octets);
     }
 
-    fn values(&mut self, name: &'static str, _: &str, field: FieldOf<'_>) {
+    fn values(&mut self, name: &'static str, _: &str, field: &FieldOf<'_>) {
         self.begin_list(name);
         for line in field.fields.values(field.name) {
             let mut page = self.page();

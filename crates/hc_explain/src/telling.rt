@@ -50,7 +50,6 @@ pub(crate) fn begin_between<T: Teller>(word: &str, known: &Explanation<'_>, tell
 // Tells what the reply says, and what the request asks besides its target.
 fn tell_reply<T: Teller>(known: &Explanation<'_>, teller: &mut T) {
     let claim = &known.claim;
-    let head = &claim.reply.head;
     teller.begin("reply");
     begin_between("reply  ", known, teller);
     teller.moment(claim.moment);
@@ -59,10 +58,13 @@ fn tell_reply<T: Teller>(known: &Explanation<'_>, teller: &mut T) {
     let mut target = teller.page();
     target.target(claim.target);
     teller.said("target", target);
-    teller.number("status", " -> ", u64::from(head.status.as_u16()), "");
-    teller.number("octets", ", ", claim.reply.body.len() as u64, " octets, ");
+    teller.number("status", " -> ", u64::from(claim.status().as_u16()), "");
+    teller.number("octets", ", ", claim.body().len() as u64, " octets, ");
     say_mark(known, teller);
-    teller.known("cache_status", FieldOf::new(b"cache-status", &head.fields));
+    teller.known(
+        "cache_status",
+        &FieldOf::new(b"cache-status", claim.fields()),
+    );
     teller.flag("inferred", claim.is_inferred);
     teller.words("\n");
     tell_asked(claim, teller);
@@ -79,7 +81,7 @@ fn tell_asked<T: Teller>(claim: &ReplyClaim<'_>, teller: &mut T) {
             teller.separator(is_first, "asked           ", ", ");
             teller.begin_item();
             teller.octets("name", "", name);
-            teller.value("value", " ", FieldOf::new(name, fields));
+            teller.value("value", " ", &FieldOf::new(name, fields));
             teller.end();
             is_first = false;
         }
@@ -111,10 +113,10 @@ fn say_mark<T: Teller>(known: &Explanation<'_>, teller: &mut T) {
 }
 
 pub(crate) fn say_cache_status<T: Teller>(claim: &ReplyClaim<'_>, teller: &mut T) {
-    let fields = &claim.reply.head.fields;
+    let fields = claim.fields();
     if fields.contains(b"cache-status") {
         teller.words("Cache-Status ");
-        teller.said_value(FieldOf::new(b"cache-status", fields));
+        teller.said_value(&FieldOf::new(b"cache-status", fields));
     } else {
         teller.words("no Cache-Status");
     }
@@ -122,7 +124,7 @@ pub(crate) fn say_cache_status<T: Teller>(claim: &ReplyClaim<'_>, teller: &mut T
 
 // Whether the Cache-Status of the reply has several members or lines.
 fn has_several_marks(claim: &ReplyClaim<'_>) -> bool {
-    let fields = &claim.reply.head.fields;
+    let fields = claim.fields();
     match fields.only(b"cache-status") {
         Some(value) => value.contains(&b','),
         None => fields.contains(b"cache-status"),

@@ -550,8 +550,7 @@ impl End {
         let Some(body) = &self.body else {
             return false;
         };
-        let told = claim.reply.body.as_slice();
-        claim.reply.head.status == status && has_body(&claim.request.method, told, body.as_slice())
+        claim.status() == status && has_body(&claim.request.method, claim.body(), body.as_slice())
     }
 
     // Whether what is known of the answer is what the reply carries.

@@ -247,11 +247,7 @@ fn has_its_body<I: Index>(index: &I, claim: &ReplyClaim<'_>, position: u64) -> b
     ensures { (format : Format) (h : List Item) → IsSeenAs format (I.seen index.now) h → result ≡ has_its_body claim.now h position }
 {
     match index.response(claim.target, position) {
-        Some(state) => has_body(
-            &claim.request.method,
-            claim.reply.body.as_slice(),
-            state.body.as_slice(),
-        ),
+        Some(state) => has_body(&claim.request.method, claim.body(), state.body.as_slice()),
         None => false,
     }
 }

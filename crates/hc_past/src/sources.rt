@@ -9,9 +9,9 @@ use hc_shown::{FieldOf, Teller};
 pub(crate) fn tell_lifetime<T: Teller>(fields: &Fields, teller: &mut T) {
     let cache_control = FieldOf::new(b"cache-control", fields);
     if fields.contains(b"cache-control") {
-        teller.value("cache-control", ", Cache-Control ", cache_control);
+        teller.value("cache-control", ", Cache-Control ", &cache_control);
     } else if fields.contains(b"expires") {
-        teller.value("expires", ", Expires ", FieldOf::new(b"expires", fields));
+        teller.value("expires", ", Expires ", &FieldOf::new(b"expires", fields));
     } else {
         teller.words(", neither Cache-Control nor Expires");
     }
@@ -35,7 +35,7 @@ impl End {
         self.tell_status("status", "  ", teller);
         tell_lifetime(fields, teller);
         if fields.contains(b"age") {
-            teller.value("age", ", Age ", FieldOf::new(b"age", fields));
+            teller.value("age", ", Age ", &FieldOf::new(b"age", fields));
         } else {
             teller.some("age", None);
         }

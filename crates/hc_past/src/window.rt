@@ -74,7 +74,7 @@ impl End {
         if !asks_the_same(claim, &self.method) {
             return Apart::Method;
         }
-        let status_told = claim.reply.head.status;
+        let status_told = claim.status();
         if status != status_told && status == StatusCode::NOT_MODIFIED {
             return Apart::NotModified;
         }
@@ -87,8 +87,7 @@ impl End {
         let Some(body) = &self.body else {
             return Apart::Body(None);
         };
-        let told = claim.reply.body.as_slice();
-        match body_gap(&claim.request.method, told, body.as_slice()) {
+        match body_gap(&claim.request.method, claim.body(), body.as_slice()) {
             Some(gap) => Apart::Body(Some(gap)),
             None => Apart::Nothing,
         }

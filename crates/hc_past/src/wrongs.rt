@@ -75,14 +75,14 @@ impl Drop for Wrong<'_> {
 
 // Why a reply counts as one without a mark.
 fn no_mark(alloc: Global, claim: &ReplyClaim<'_>) -> Result<NoMark, AllocError> {
-    let head = &claim.reply.head;
-    if !head.fields.contains(b"cache-status") {
+    let fields = claim.fields();
+    if !fields.contains(b"cache-status") {
         return Ok(NoMark::Absent);
     }
-    if head.status != StatusCode::PARTIAL_CONTENT {
+    if claim.status() != StatusCode::PARTIAL_CONTENT {
         return Ok(NoMark::Silent);
     }
-    match mark(alloc, &head.fields) {
+    match mark(alloc, fields) {
         Ok(Mark::Hit { .. }) => Ok(NoMark::Partial),
         Ok(_) => Ok(NoMark::Silent),
         Err(MarkFault::Memory) => Err(AllocError),

@@ -60,7 +60,8 @@ impl<I: Index> Witness<I> for Report {
     }
 
     fn see(&mut self, judged: &JudgedReply<'_, I>) -> Result<(), AllocError> {
-        let octets = judged.reply.reply().body.len() as u64;
+        let reply = judged.reply.reply();
+        let octets = reply.body.len() as u64;
         let is_right = judged.finding == Finding::Right;
         self.replies.count(judged.mark, octets, is_right);
         match judged.finding {

@@ -87,7 +87,7 @@ pub(crate) fn say_response(forward: &OpenForward, response: &ResponseHeadView<'_
     for name in SAYING {
         if response.fields.contains(name) {
             page.said_octets(", ", name, " ");
-            page.said_value(FieldOf::new(name, &response.fields));
+            page.said_value(&FieldOf::new(name, &response.fields));
         }
     }
 }

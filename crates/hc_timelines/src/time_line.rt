@@ -226,7 +226,7 @@ impl TimeLine {
         row.words
             .said_octets("", claim.request.method.as_slice(), "");
         row.words
-            .count(" -> ", u64::from(claim.reply.head.status.as_u16()), "");
+            .count(" -> ", u64::from(claim.status().as_u16()), "");
         say_mark(judged.mark, &mut row.words);
         say_finding(judged.finding, from, &mut row.words);
         self.push(row)

@@ -8,7 +8,7 @@ ghost use Rattle.hc_why.specs.Demanding.{IsAskedByResponse, IsAskedOf, IsDemande
 
 use crate::changes::{INVALIDATED, INVALIDATED_BY_SAFE};
 use crate::explaining::Explanation;
-use hc_fields::Fields;
+use hc_fields::{Fields, Lines};
 use hc_gaps::{FieldsOrigin, leaves_out};
 use hc_head::{StatusCode, is_head};
 use hc_history::{Finding, Reason};
@@ -103,7 +103,7 @@ impl Explanation<'_> {
         ensures { result ≡ may_be self.now reason }
     {
         if is_not_forwarded(reason) {
-            500 <= self.claim.reply.head.status.as_u16()
+            500 <= self.claim.status().as_u16()
         } else {
             keep_all(self.before.named.as_slice())
         }
@@ -126,7 +126,7 @@ impl Explanation<'_> {
         ensures { result ≡ forbids_given self.now.claim status forbids }
     {
         let is_304 = status == Some(StatusCode::NOT_MODIFIED);
-        let is_part = self.claim.reply.head.status == StatusCode::PARTIAL_CONTENT;
+        let is_part = self.claim.status() == StatusCode::PARTIAL_CONTENT;
         let asks_head = is_head(&self.claim.request.method);
         Forbids {
             status: forbids.status && !is_304,
@@ -158,8 +158,7 @@ impl Explanation<'_> {
     fn leaves_out(&self, directive: &[u8], response: &Fields) -> bool
         ensures { result ≡ leaves_out directive.now response.now self.now.claim.reply.head.fields }
     {
-        let reply = &self.claim.reply.head.fields;
-        leaves_out(directive, response, reply)
+        leaves_out(directive, &response.lent(), self.claim.fields())
     }
 
     // What is asked by the way in which that response falls short.
@@ -172,7 +171,7 @@ impl Explanation<'_> {
             is_after_304: self.ends.has_unselected(),
             is_after_error: self.ends.due.is_after_error(),
             is_by_safe: self.ends.is_by_safe(),
-            status: self.claim.reply.head.status,
+            status: self.claim.status(),
             position: nearest.position,
             validator: origin.validator,
             first: origin.first,

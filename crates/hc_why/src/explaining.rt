@@ -149,7 +149,8 @@ fn permitted_part<I: Index>(
     alloc: Global,
     judged: &JudgedReply<'_, I>,
 ) -> Result<Option<Demand>, AllocError> {
-    if !is_of_part(judged.reply.reply().head.status) || judged.settings.allowed.ranges {
+    let reply = judged.reply.reply();
+    if !is_of_part(reply.head.status) || judged.settings.allowed.ranges {
         return Ok(None);
     }
     let mut settings = judged.settings.copy(alloc)?;

@@ -110,7 +110,7 @@ impl<'a> Explanation<'a> {
                 found.tell((claim, state), self.fields_origin(nearest), teller);
             }
             Shortfall::Age(gap) => {
-                gap.tell(&claim.reply.head.fields, self.age_origin(nearest), teller);
+                gap.tell(claim.fields(), self.age_origin(nearest), teller);
             }
             Shortfall::Ttl(gap) => gap.tell(teller),
         }
