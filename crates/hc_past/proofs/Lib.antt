@@ -4,3 +4,4 @@ pub mod KnownLemmas
 pub mod LatestLemmas
 pub mod NamingLemmas
 pub mod PastLemmas
+pub mod ItemLemmas

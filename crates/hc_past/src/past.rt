@@ -14,7 +14,8 @@ use hc_fields::{Fields, Octets, SharedOctets};
 use hc_framing::{BodyView, RequestView, ResponseView};
 use hc_gaps::has_body;
 use hc_head::{
-    Method, RequestHead, ResponseHead, ResponseHeadView, StatusCode, Target, is_error_status, is_head, same_target,
+    Method, RequestHead, ResponseHead, ResponseHeadView, StatusCode, Target, is_error_status,
+    is_head, same_target,
 };
 use hc_history::{ReplyClaim, carries, may_be_for};
 use hc_index::{Index, OpenForward};
@@ -235,9 +236,12 @@ impl Past {
         ensures asked { (h : List Item) (target : Target) → HasAsked target h self.old → IsRecordBehind I.seen h passed.now
             → OnOk result (HasAsked target (item_passed passed.now ∷ h) self.new) }
     {
-        match &passed.item.of {
+        let item = passed.item;
+        match &item.of {
             MeaningView::OriginRequest { target, .. } => self.take_sent(passed, target),
-            MeaningView::ClientRequest { target, request } => self.take_asked(passed, target, request),
+            MeaningView::ClientRequest { target, request } => self.take_asked(
+                passed, target, request,
+            ),
             MeaningView::OriginResponse(response) => {
                 self.take(passed, Kind::OriginResponse, Some(response))
             }

@@ -6,6 +6,7 @@ use Rattle.std.specs.Ordering.{nat_cmp}
 use Rattle.hc_index.specs.Lists.{forward_seen}
 use Rattle.hc_shown.specs.declared.teller.RecordName.{RecordName}
 use Rattle.hc_transcript.specs.History.{cause_of, forward_of}
+use Rattle.hc_transcript.specs.Items.{item_number, moment_of}
 use Rattle.hc_past.specs.Remembered.{EndKnown, EndSeen, all_known_of, any_ends_with, end_by, end_known, end_seen, last_place, most_ends, named_as, open_sent, sent_of, short_end}
 use Rattle.hc_past.proofs.KnownLemmas.{gone_at, known_ended, sent_is}
 use Rattle.hc_past.proofs.LatestLemmas.{adds, one_ended_of_all, same_place, short_ended}
@@ -15,7 +16,7 @@ use Rattle.hc_past.proofs.past.Past.take.Goals as goal
 pub returns-clause-ends : goal.returns-clause-ends
 returns-clause-ends g c = λ h one ends before behind.
     let passed = c.args.passed.now in
-    let number = passed.item.now.number in
+    let number = item_number passed.item.now in
     let forward = c.in-Some.forward.now in
     let room = c.make_room.ensures.ends one ends (c.in_ok-take_answer.ensures.kept one ends record { one_target = before.one_target; all = before.all }) in
     let begun = ap (λ (n : RecordName). end_by n forward.cause None (forward_seen forward)) c.record_of.ensures in
@@ -25,17 +26,17 @@ returns-clause-ends g c = λ h one ends before behind.
       all = ap (map end_seen) c.in_ok-push_back.ensures.items
           ∙ map-append end_seen _ _
           ∙ ap (λ (all : List EndSeen). all ++ end_seen c.take_answer.new.end ∷ []) room.all
-          ∙ one_ended one.path (named_as c.args.kind passed.position number passed.item.now.moment) (cause_of number h) forward.cause (option_copied c.args.response) (forward_of number h) ends
+          ∙ one_ended one.path (named_as c.args.kind passed.position number (moment_of passed.item.now)) (cause_of number h) forward.cause (option_copied c.args.response) (forward_of number h) ends
           (forward_seen forward) (end_seen c.in_ok-end.end) (end_seen c.take_answer.new.end)
-          (c.in-Some.ensures.asked _ h behind.index) (c.in-Some.ensures.cause _ h behind.index) (sym (c.is_remembered.ensures.one one before.one_target) ∙ c.if-not-is_remembered.false) (c.in_ok-end.ensures.seen ∙ begun) ended;
+          (rw c.number-number.ensures at c.in-Some.ensures.asked _ h behind.index) (rw c.number-number.ensures at c.in-Some.ensures.cause _ h behind.index) (sym (c.is_remembered.ensures.one one before.one_target) ∙ c.if-not-is_remembered.false) (c.in_ok-end.ensures.seen ∙ begun) ended;
     }
 
 pub returns-clause-latest : goal.returns-clause-latest
 returns-clause-latest g c = λ h ends before behind.
     let passed = c.args.passed.now in
-    let number = passed.item.now.number in
+    let number = item_number passed.item.now in
     let forward = c.in-Some.forward.now in
-    let name = named_as c.args.kind passed.position number passed.item.now.moment in
+    let name = named_as c.args.kind passed.position number (moment_of passed.item.now) in
     let answer = option_copied c.args.response in
     let end = end_by name forward.cause answer (forward_seen forward) in
     let room = c.make_room.ensures.latest ends (c.in_ok-take_answer.ensures.latest most_ends ends
@@ -44,8 +45,8 @@ returns-clause-latest g c = λ h ends before behind.
     let short = short_ended name forward.cause answer (forward_seen forward) _ _ begun
     (c.in_ok-take_answer.ensures.short before.all_targets (ap (λ (e : EndSeen). e.body) begun)) in
     let all : any_ends_with name (cause_of number h) answer (forward_of number h) ends ≡ ends ++ end ∷ [] =
-    one_ended_of_all name (cause_of number h) forward.cause answer (forward_of number h) ends (forward_seen forward) (c.in-Some.ensures.asked _ h behind.index)
-    (c.in-Some.ensures.cause _ h behind.index) in
+    one_ended_of_all name (cause_of number h) forward.cause answer (forward_of number h) ends (forward_seen forward) (rw c.number-number.ensures at c.in-Some.ensures.asked _ h behind.index)
+    (rw c.number-number.ensures at c.in-Some.ensures.cause _ h behind.index) in
     record {
       all_targets = room.all_targets;
       latest = ap (map end_seen) c.in_ok-push_back.ensures.items
@@ -59,18 +60,18 @@ returns-clause-latest g c = λ h ends before behind.
 
 pub returns-clause-known : goal.returns-clause-known
 returns-clause-known g c = λ h one before behind.
-    let number = c.args.passed.now.item.now.number in
+    let number = item_number c.args.passed.now.item.now in
     let forward = c.in-Some.forward.now in
     let same = sym (c.is_remembered.ensures.one one before.one_target) ∙ c.if-not-is_remembered.false in
-    let asked = c.in-Some.ensures.asked _ h behind.index in
+    let asked = rw c.number-number.ensures at c.in-Some.ensures.asked _ h behind.index in
     let kept = c.in_ok-take_answer.ensures.known one (λ f. if number == f then None else open_sent one.path h f) (all_known_of one.path h) record {
       one_target = before.one_target;
       sent_now = λ f.
-          gone_at number f _ _ (c.remove-sent.ensures.updates.0 f ∙ ap (λ (o : Option RecordName). cond (is_at (nat_cmp number) f) None o) (before.sent_now f));
+          gone_at number f _ _ ((rw c.number-number.ensures at c.remove-sent.ensures.updates.0 f) ∙ ap (λ (o : Option RecordName). cond (is_at (nat_cmp number) f) None o) (before.sent_now f));
       all = before.all;
     } in
     let room = c.make_room.ensures.known one _ _ kept in
-    let sent = c.remove-sent.ensures.value ∙ before.sent_now number ∙ sent_is one.path (forward_of number h) (sent_of number h) (forward_seen forward) asked same in
+    let sent = (rw c.number-number.ensures at c.remove-sent.ensures.value) ∙ before.sent_now number ∙ sent_is one.path (forward_of number h) (sent_of number h) (forward_seen forward) asked same in
     record {
       one_target = room.one_target;
       sent_now = room.sent_now;
