@@ -100,7 +100,11 @@ impl<I: Index + Drop> Judge<I> {
     }
 
     /// The record that was read last and is that item, where it is no reply.
-    pub(crate) fn passed<'a>(&'a self, item: &'a RecordView<'a>, format: Format) -> PassedRecord<'a, I>
+    pub(crate) fn passed<'a>(
+        &'a self,
+        item: &'a RecordView<'a>,
+        format: Format,
+    ) -> PassedRecord<'a, I>
         ensures position { result.position ≡ records_read self.now.reader }
         ensures format { result.format ≡ format }
         ensures item { result.item.now ≡ item.now }
@@ -231,7 +235,11 @@ impl<I: Index + Drop> Judge<I> {
     }
 
     /// What is found of that item, which was read last, and its mark: that it is right, where it is no reply.
-    fn found(&self, item: &RecordView<'_>, format: Format) -> Result<(Finding, Option<Mark>), AllocError>
+    fn found(
+        &self,
+        item: &RecordView<'_>,
+        format: Format,
+    ) -> Result<(Finding, Option<Mark>), AllocError>
         ensures finding { (h : List Item) → IsSeenAs format (I.seen self.now.index) h
             → IfOk result (λ found. IsFound format self.now.settings h item.now found.0) }
         ensures mark { (h : List Item) → IsSeenAs format (I.seen self.now.index) h → AnswersOpen h item.now

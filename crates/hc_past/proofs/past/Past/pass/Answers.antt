@@ -1,9 +1,8 @@
-use Rattle.std.proofs.Common.{◌≡◌, ◌∙◌, ◌∷◌, ℕ, List, Some, None, ap, subst, sym}
+use Rattle.std.proofs.Common.{◌∙◌, ◌∷◌, Some, None, ap, subst, sym}
 use Rattle.std.specs.Prelude.{OnOk}
-use Rattle.hc_head.specs.declared.head.Target.{Target}
 use Rattle.hc_transcript.specs.declared.line.Kind.TheVariants as kind
 use Rattle.hc_transcript.specs.declared.view.MeaningView.{MeaningView}
-use Rattle.hc_transcript.specs.Items.{Item, ClientReply, ClientRequest, OriginRequest, item_number, item_seen, moment_of}
+use Rattle.hc_transcript.specs.Items.{Item, ClientReply, OriginRequest, item_number, item_seen, moment_of}
 use Rattle.hc_transcript.specs.History.{cause_of, forward_of}
 use Rattle.hc_past.specs.Remembered.{HasAsked, IsKnownOf, IsLatestOf, IsPastOf, Remembers, RemembersForbidden, RemembersLatest, all_ends, all_forbidden, any_ends_with, ends_of, ends_with, forbidden_after, forbidden_to, most_ends, named_as}
 use Rattle.hc_past.proofs.ForbiddenLemmas.{Pairs, none_forbidden, where_ok}
