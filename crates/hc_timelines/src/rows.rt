@@ -81,7 +81,11 @@ fn copied(alloc: Global, page: &Page) -> Result<String, AllocError> {
 }
 
 /// Says what a response is: its status, to which method, and what it says of its lifetime.
-pub(crate) fn say_response(forward: &OpenForward, response: &ResponseHeadView<'_>, page: &mut Page) {
+pub(crate) fn say_response(
+    forward: &OpenForward,
+    response: &ResponseHeadView<'_>,
+    page: &mut Page,
+) {
     page.count("", u64::from(response.status.as_u16()), " to ");
     page.said_octets("", forward.request.method.as_slice(), "");
     for name in SAYING {

@@ -118,7 +118,8 @@ impl TimeLine {
         if self.last < passed.position {
             return Ok(());
         }
-        match &passed.item.of {
+        let item = passed.item;
+        match &item.of {
             MeaningView::OriginResponse(response) => self.take_end(
                 passed,
                 Kind::OriginResponse,
