@@ -7,6 +7,7 @@
 mod blocks;
 mod messages_describing;
 mod messages_heads;
+mod messages_lent;
 mod messages_links;
 mod messages_parts;
 mod messages_pieces;
@@ -43,6 +44,7 @@ impl Ask for RuleCases {
             "message" => messages_whole::answer(Asked::Cuts, case, out),
             "write-message" => messages_whole::answer(Asked::Text, case, out),
             "octet-by-octet" => messages_pieces::octet_by_octet(case, out),
+            "slices" | "lent" => messages_lent::answer(case, out),
             "writable-request" => messages_writing::writable_request(case, out),
             "writable-response" => messages_writing::writable_response(case, out),
             _ => answer_of_links(case, out),
