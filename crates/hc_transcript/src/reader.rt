@@ -28,7 +28,6 @@ struct Lent {
 /// Reads the records of a transcript that comes in pieces. It holds the octets of the record that it
 /// lends, and those that were fed and not yet read.
 pub struct RecordReader {
-    alloc: Global,
     /// The octets of the record that is lent, and those that wait behind it.
     held: Waiting,
     lent: Option<Lent>,
@@ -44,7 +43,6 @@ pub struct RecordReader {
 impl Drop for RecordReader {
     fn drop(self) {
         let RecordReader {
-            alloc: _,
             held,
             lent: _,
             places,
@@ -67,7 +65,6 @@ impl RecordReader {
         ensures { Agrees result [] [] [] }
     {
         RecordReader {
-            alloc,
             held: Waiting::new(alloc),
             lent: None,
             places: RecordPlaces::new(alloc),
