@@ -1,6 +1,6 @@
 //! The access log of a proxy.
 
-ghost use Rattle.std.specs.Prelude.{◌≡◌, true};
+ghost use Rattle.std.specs.Prelude.{◌≡◌, false, true};
 ghost use Rattle.hc_access.specs.Accounts.{Accounts, replies_in};
 
 use crate::replies::Replies;
@@ -83,7 +83,9 @@ impl<F: Target> AccessLog<F> {
 
     /// Takes in what the cache did by that.
     pub fn see<V: Visited, A: Awaiting>(&mut self, links: &V, cache: &A, actions: &[Action])
-        ensures { self.old.on ≡ true → Accounts (replies_in actions.now) self.old.replies self.new.replies }
+        ensures { (self.old.on ≡ true → Accounts (replies_in actions.now) self.old.replies self.new.replies)
+            × (self.old.on ≡ false → self.new ≡ self.old)
+            × (self.new ≡ record self.old { replies = self.new.replies }) }
     {
         if self.on {
             self.replies.see(cache, actions, links.tick());
