@@ -6,7 +6,7 @@ ghost use Rattle.hc_access.specs.Accounts.{Accounts, replies_in};
 use crate::replies::Replies;
 use crate::visits::Visited;
 use crate::writer::LogWriter;
-use hc_link_traits::Awaiting;
+use hc_links::Awaiting;
 use hc_order::Occurrence;
 use hc_service::Action;
 use std::alloc::{AllocError, Global};
@@ -23,7 +23,8 @@ const FOLLOWING: u64 = 1_000;
 
 /// What an access log is written to.
 pub trait Target: Write {
-    /// Goes on in another file where the name of that which is written to leads to one by now. Answers whether it does.
+    /// Goes on in another file where the name of that which is written to leads to one by now. Returns
+    /// whether it does.
     fn follow(&mut self) -> bool;
 }
 

@@ -2,7 +2,7 @@
 use Rattle.std.specs.Prelude.{◌≡◌, ◌+◌, ◌-◌, ◌/◌, ◌<◌, ◌≤◌, ◌⊎◌, ◌==◌, ℕ, Bool, true, false, if◌then◌else◌, List, [], ◌∷◌, length, Option, Some, None, is_some}
 use Rattle.std.specs.BTreeMap.{get}
 use Rattle.std.specs.Ordering.{nat_cmp}
-use Rattle.hc_agenda.specs.declared.places.Candidate.{Candidate}
+use Rattle.hc_agenda.specs.declared.places.PlaceCandidate.{PlaceCandidate}
 use Rattle.hc_agenda.specs.declared.places.Places.{Places}
 
 -- how many places there are
@@ -95,7 +95,7 @@ without_first forward (first ∷ rest) = if first == forward then rest else firs
 -- ---- who is next
 
 -- it is the first of those that nobody awaits; there is none where they have their half, or none of them waits
-abbrev pub IsNextBehind : Places → Option Candidate → Type 0
+abbrev pub IsNextBehind : Places → Option PlaceCandidate → Type 0
 IsNextBehind places None = (unawaited_in places ≡ []) ⊎ (half_of places ≤ places.background)
 IsNextBehind places (Some candidate) = (candidate.background ≡ true) × (places.background < half_of places) × (first_in (unawaited_in places) ≡ Some candidate.forward)
 
@@ -105,17 +105,17 @@ IsFirstOf false places forward = first_in (awaited_in places) ≡ Some forward
 IsFirstOf true places forward = (awaited_in places ≡ []) × (places.background < half_of places) × (first_in (unawaited_in places) ≡ Some forward)
 
 -- it is the next forward that may have a place; there is none where no place is left, or none for those that wait
-abbrev pub IsNext : Places → Option Candidate → Type 0
+abbrev pub IsNext : Places → Option PlaceCandidate → Type 0
 IsNext places None = IsFull places ⊎ ((awaited_in places ≡ []) × ((unawaited_in places ≡ []) ⊎ NoPlaceIsLeftBehind places))
 IsNext places (Some candidate) = HasPlaceLeft places × IsFirstOf candidate.background places candidate.forward
 
 -- the next forward is taken out of its line, and nothing else has changed
-pub record TakesCandidate (candidate : Candidate) (before after : Places) : Type 0 where
+pub record TakesCandidate (candidate : PlaceCandidate) (before after : Places) : Type 0 where
   pub only : ChangesLine candidate.background before after
   pub first : line_of candidate.background before ≡ candidate.forward ∷ line_of candidate.background after
   pub fewer : count_waiting after + 1 ≡ count_waiting before
 
 -- the same, where there is one; else nothing has changed
-abbrev pub TakesNext : Option Candidate → Places → Places → Type 0
+abbrev pub TakesNext : Option PlaceCandidate → Places → Places → Type 0
 TakesNext None before after = after ≡ before
 TakesNext (Some candidate) before after = TakesCandidate candidate before after

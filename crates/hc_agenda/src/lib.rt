@@ -17,6 +17,6 @@ pub use deadline::{Deadline, Timeout, earlier};
 pub use holding::Holding;
 pub use listening::Listening;
 pub use moments::{Moments, moments_follow_what_stays_ahead};
-pub use places::{Candidate, Places};
+pub use places::{PlaceCandidate, Places};
 pub use reckoning::{Heaviest, Load, Ranking, Reckoning};
 pub use turns::{Turns, a_batch_gives_each_link_its_turn};

@@ -10,7 +10,7 @@ use std::collections::{BTreeMap, VecDeque};
 
 /// A forward that may have a place.
 #[derive(Clone, Copy)]
-pub struct Candidate {
+pub struct PlaceCandidate {
     pub forward: u64,
     /// Whether nobody awaits what comes on it.
     background: bool,
@@ -97,14 +97,14 @@ impl Places {
     }
 
     /// The next forward that may have a place now, which is left in its line.
-    pub fn candidate(&self) -> Option<Candidate>
+    pub fn candidate(&self) -> Option<PlaceCandidate>
         ensures { IsNext self.now result }
     {
         if self.given.len() >= self.most {
             return None;
         }
         if let Some(forward) = first_of(&self.awaited) {
-            return Some(Candidate {
+            return Some(PlaceCandidate {
                 forward,
                 background: false,
             });
@@ -114,21 +114,21 @@ impl Places {
 
     /// The same of those that nobody awaits, where none of the others waits and a place is left. Of an odd number of places
     /// the larger half is theirs, so that they have one at least.
-    fn candidate_behind(&self) -> Option<Candidate>
+    fn candidate_behind(&self) -> Option<PlaceCandidate>
         ensures { IsNextBehind self.now result }
     {
         if self.background >= self.most - self.most / 2 {
             return None;
         }
         let forward = first_of(&self.unawaited)?;
-        Some(Candidate {
+        Some(PlaceCandidate {
             forward,
             background: true,
         })
     }
 
     /// The next forward that may have a place now, which is taken out.
-    pub fn next(&mut self) -> Option<Candidate>
+    pub fn next(&mut self) -> Option<PlaceCandidate>
         ensures kept { KeepsPlaces self.old self.new }
         ensures left { IfSome result (λ _. HasPlaceLeft self.new) }
         ensures first { IsNext self.old result }
@@ -144,14 +144,14 @@ impl Places {
     }
 
     /// A forward has a place. Where memory is refused, all is as it was.
-    pub fn give(&mut self, candidate: Candidate) -> Result<(), AllocError>
+    pub fn give(&mut self, candidate: PlaceCandidate) -> Result<(), AllocError>
         ensures all { places_in_all self.new ≡ places_in_all self.old }
         ensures one_more { places_given self.new ≤ places_given self.old + 1 }
         ensures kept { (f : ℕ) → has_place f self.old ≡ true → has_place f self.new ≡ true }
         ensures given { OnOk result (has_place candidate.forward self.new ≡ true) }
         ensures lines { KeepsLines self.old self.new }
     {
-        let Candidate {
+        let PlaceCandidate {
             forward,
             background,
         } = candidate;
@@ -183,7 +183,7 @@ impl Places {
         self.given.contains_key(&forward)
     }
 
-    /// A forward needs no place any more. Answers whether it had one.
+    /// A forward needs no place any more. Returns whether it had one.
     pub fn free(&mut self, forward: u64) -> bool
         ensures all { places_in_all self.new ≡ places_in_all self.old }
         ensures fewer { places_given self.new ≤ places_given self.old }

@@ -1,8 +1,8 @@
 -- What the calls of a crowd's traffic keep goes on from one to the next.
 use Rattle.std.proofs.Common.{◌≡◌, ℕ, Bool, true, false, List, Option, Some, None, Result, Ok, Err, arith, refl, sym, subst, true≢false}
-use Rattle.hc_events.specs.declared.Happening.TheVariants.{Stopping}
+use Rattle.hc_service.specs.declared.event.Happening.TheVariants.{Stopping}
 use Rattle.std.specs.declared.alloc.AllocError.{AllocError}
-use Rattle.hc_link_traits.specs.declared.happened.Happened.{Happened}
+use Rattle.hc_links.specs.declared.happened.Happened.{Happened}
 use Rattle.hc_peers.specs.declared.client.Hearing.{Hearing}
 use Rattle.hc_peers.specs.declared.peers.Peers.{Peers}
 use Rattle.hc_order.specs.declared.occurrence.Reason.{Reason}

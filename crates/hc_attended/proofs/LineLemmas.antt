@@ -4,7 +4,7 @@ use Rattle.std.specs.declared.alloc.AllocError.{AllocError}
 use Rattle.std.proofs.lemmas.Bool.Decides.{nat_tests}
 use Rattle.std.specs.BTreeMap.{is_at as is_key}
 use Rattle.std.specs.Ordering.{nat_cmp}
-use Rattle.hc_agenda.specs.declared.places.Candidate.{Candidate}
+use Rattle.hc_agenda.specs.declared.places.PlaceCandidate.{PlaceCandidate}
 use Rattle.hc_agenda.specs.declared.places.Places.{Places}
 use Rattle.hc_agenda.specs.Places.{ChangesLine, ChangesOpened, HasPlaceLeft, IsFirstOf, IsNext, KeepsLines, TakesForward, TakesNext, awaited_in, count_waiting, first_in, line_of, opened_in, unawaited_in, without_first}
 use Rattle.hc_peers.specs.Knocks.{is_in}
@@ -158,7 +158,7 @@ some_next places true f left first (inr (none, inl nobody)) = none_first (unawai
 some_next places true f left first (inr (none, inr (inl full))) = omega (arith, left, full)
 some_next places true f left first (inr (none, inr (inr half))) = omega (arith, first.1, half)
 
-pub next_taken : (candidate : Candidate) (result : Option Candidate) (before after : Places) → IsNext before (Some candidate) → IsNext before result → TakesNext result before after
+pub next_taken : (candidate : PlaceCandidate) (result : Option PlaceCandidate) (before after : Places) → IsNext before (Some candidate) → IsNext before result → TakesNext result before after
     → IfSome result (λ c. HasPlaceLeft after) → IsTaken candidate.forward before after
 next_taken candidate None before after next is taken left = absurd (some_next before candidate.background candidate.forward next.0 next.1 is)
 next_taken candidate (Some other) before after next is taken left = record {

@@ -8,7 +8,7 @@ use Rattle.hc_flow.specs.declared.flow.Flow.{Flow}
 use Rattle.hc_flow.specs.Flows.{LeavesFlow, is_owed, may_be_written}
 use Rattle.hc_flow.specs.declared.outbox.Emptying.{Emptying}
 use Rattle.hc_flow.specs.declared.outbox.Emptying.TheVariants.{Emptied, Later, Failed}
-use Rattle.hc_flow.specs.declared.progress.Progress.{Progress}
+use Rattle.hc_flow.specs.declared.progress.ForwardProgress.{ForwardProgress}
 use Rattle.hc_order.specs.declared.receiver.Receiver.{Receiver}
 use Rattle.hc_order.specs.declared.receiver.Receiver.TheVariants.{Client as to_client, Origin as to_origin}
 use Rattle.hc_order.specs.Passages.{is_at}
@@ -206,7 +206,7 @@ module _ {S : Type 0} where
   never_opening (Linked link) is opens = true≢false (sym is)
   never_opening (Lost reason) is opens = true≢false (sym is)
 
-  never_progresses : (reaching : Reaching S) (progress : Progress) → is_waiting reaching ≡ true → progress_at reaching ≡ Some progress → ⊥
+  never_progresses : (reaching : Reaching S) (progress : ForwardProgress) → is_waiting reaching ≡ true → progress_at reaching ≡ Some progress → ⊥
   never_progresses (Waiting request) progress is there = cc
   never_progresses (Linked link) progress is there = true≢false (sym is)
   never_progresses (Lost reason) progress is there = true≢false (sym is)

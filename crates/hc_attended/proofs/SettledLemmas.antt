@@ -11,7 +11,7 @@ use Rattle.hc_order.specs.declared.receiver.Receiver.TheVariants.{Client as to_c
 use Rattle.hc_order.specs.Passages.{is_at}
 use Rattle.hc_flow.specs.Flows.{is_owed}
 use Rattle.hc_flow.specs.Paces.{forward_due, next_look}
-use Rattle.hc_flow.specs.declared.progress.Progress.{Progress}
+use Rattle.hc_flow.specs.declared.progress.ForwardProgress.{ForwardProgress}
 use Rattle.hc_agenda.specs.declared.agenda.Agenda.{Agenda}
 use Rattle.hc_agenda.specs.declared.deadline.Timeout.{Timeout}
 use Rattle.hc_agenda.specs.declared.deadline.Timeout.TheVariants as timeouts
@@ -219,7 +219,7 @@ module _ {S : Type 0} (times : Times) (tick : ℕ) (peers : Peers S) (agenda : A
       (λ hear. in_turn (to_origin f) agenda settled.written (s.seen.heard hear))
       (λ waits. placed_none f times tick peers.places agenda settled.sorted settled.placed (s.timed.waits waits))
 
-  pub forward_in_time : (f : ℕ) (forward : Forward S) (progress : Progress) → IsSettled times tick peers agenda → get nat_cmp peers.forwards.links f ≡ Some forward
+  pub forward_in_time : (f : ℕ) (forward : Forward S) (progress : ForwardProgress) → IsSettled times tick peers agenda → get nat_cmp peers.forwards.links f ≡ Some forward
       → progress_at forward.reaching ≡ Some progress → is_due_up_to timeouts.Origin f (forward_due progress times.patience + 1) agenda ≡ true
   forward_in_time f forward progress settled is there = (settled.attended.forwards f forward is).timed.due progress there
 

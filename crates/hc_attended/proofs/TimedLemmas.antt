@@ -5,7 +5,7 @@ use Rattle.std.specs.Ordering.{nat_cmp}
 use Rattle.std.specs.declared.alloc.AllocError.{AllocError}
 use Rattle.hc_flow.specs.declared.heard.Heard.{Heard}
 use Rattle.hc_flow.specs.declared.heard.Heard.TheVariants.{Octets, End, Lost as Fails, Nothing}
-use Rattle.hc_flow.specs.declared.progress.Progress.{Progress}
+use Rattle.hc_flow.specs.declared.progress.ForwardProgress.{ForwardProgress}
 use Rattle.hc_flow.specs.declared.readiness.Readiness.{Readiness}
 use Rattle.hc_flow.specs.Paces.{forward_due}
 use Rattle.hc_order.specs.declared.receiver.Receiver.{Receiver}
@@ -130,7 +130,7 @@ module _ {S : Type 0} where
   -- something is heard of it
   one_heard : (f : ℕ) (result : Result Heard AllocError) (now : ℕ) (before after : Peers S) (agenda agenda_after : Agenda) → after.places ≡ before.places
       → KeepsNotes no_link no_link (due_of (same_timeout timeouts.Origin) f) agenda agenda_after → (times : Times) (tick : ℕ) (one other : Forward S) → ForwardIsHeard result now one other
-      → ((progress : Progress) → progress_at other.reaching ≡ Some progress → is_due_up_to timeouts.Origin f (forward_due progress times.patience + 1) agenda_after ≡ true)
+      → ((progress : ForwardProgress) → progress_at other.reaching ≡ Some progress → is_due_up_to timeouts.Origin f (forward_due progress times.patience + 1) agenda_after ≡ true)
       → IsForwardTimed f times tick before.places agenda one → IsForwardTimed f times tick after.places agenda_after other
   one_heard f result now before after agenda agenda_after places notes times tick one other hears watched timed =
       let same = heard_on result now one.reaching other.reaching hears.reaching in
@@ -146,13 +146,13 @@ module _ {S : Type 0} where
       → IsForwardInTime f times tick before agenda → IsForwardInTime f times tick after agenda_after
   timed_by_hearing f result now before after agenda agenda_after places behind notes times tick watched was forward is =
       behind_holds (ForwardIsHeard result now) (λ one. IsForwardTimed f times tick before.places agenda one)
-      (λ other. ((progress : Progress) → progress_at other.reaching ≡ Some progress → is_due_up_to timeouts.Origin f (forward_due progress times.patience + 1) agenda_after ≡ true)
+      (λ other. ((progress : ForwardProgress) → progress_at other.reaching ≡ Some progress → is_due_up_to timeouts.Origin f (forward_due progress times.patience + 1) agenda_after ≡ true)
       → IsForwardTimed f times tick after.places agenda_after other)
       (get nat_cmp before.forwards.links f) (get nat_cmp after.forwards.links f) behind
       (λ one other hears timed due. one_heard f result now before after agenda agenda_after places notes times tick one other hears due timed) was forward is
       (λ progress at. watched progress (at_link progress at))
     where
-      at_link : (progress : Progress) → progress_at forward.reaching ≡ Some progress → progress_of f after ≡ Some progress
+      at_link : (progress : ForwardProgress) → progress_at forward.reaching ≡ Some progress → progress_of f after ≡ Some progress
       at_link progress at = ap (λ there. option_and_then (λ (one : Forward S). progress_at one.reaching) there) is ∙ at
 
   no_longer_there : (Q : Forward S → Type 0) (after : Option (Forward S)) → after ≡ None → (forward : Forward S) → after ≡ Some forward → Q forward

@@ -5,7 +5,7 @@ use Rattle.std.specs.Ordering.{nat_cmp}
 use Rattle.hc_order.specs.declared.receiver.Receiver.TheVariants.{Client as to_client, Origin as to_origin}
 use Rattle.hc_flow.specs.Flows.{may_be_written}
 use Rattle.hc_flow.specs.Paces.{forward_due, next_look}
-use Rattle.hc_flow.specs.declared.progress.Progress.{Progress}
+use Rattle.hc_flow.specs.declared.progress.ForwardProgress.{ForwardProgress}
 use Rattle.hc_agenda.specs.declared.agenda.Agenda.{Agenda}
 use Rattle.hc_agenda.specs.declared.deadline.Timeout.TheVariants as timeouts
 use Rattle.hc_agenda.specs.declared.places.Places.{Places}
@@ -58,7 +58,7 @@ pub record IsForwardTimed {S : Type 0} (f : ℕ) (times : Times) (tick : ℕ) (p
   -- where its link isn't known to work yet, that is made in time
   pub opening : is_opening forward.reaching ≡ true → is_due_up_to timeouts.Connect f (tick + times.connect_timeout) agenda ≡ true
   -- where it has a link, it is looked at once its time is over
-  pub due : (progress : Progress) → progress_at forward.reaching ≡ Some progress → is_due_up_to timeouts.Origin f (forward_due progress times.patience + 1) agenda ≡ true
+  pub due : (progress : ForwardProgress) → progress_at forward.reaching ≡ Some progress → is_due_up_to timeouts.Origin f (forward_due progress times.patience + 1) agenda ≡ true
 
 pub record IsForwardAttended {S : Type 0} (f : ℕ) (times : Times) (tick : ℕ) (places : Places) (agenda : Agenda) (forward : Forward S) : Type 0 where
   pub seen : ForwardIsSeenTo f agenda forward

@@ -6,7 +6,7 @@ use Rattle.hc_order.specs.declared.receiver.Receiver.{Receiver}
 use Rattle.hc_order.specs.declared.receiver.Receiver.TheVariants.{Client as to_client, Origin as to_origin}
 use Rattle.hc_order.specs.Passages.{is_at}
 use Rattle.hc_flow.specs.Paces.{forward_due, next_look}
-use Rattle.hc_flow.specs.declared.progress.Progress.{Progress}
+use Rattle.hc_flow.specs.declared.progress.ForwardProgress.{ForwardProgress}
 use Rattle.hc_agenda.specs.declared.agenda.Agenda.{Agenda}
 use Rattle.hc_agenda.specs.declared.deadline.Timeout.TheVariants as timeouts
 use Rattle.hc_agenda.specs.declared.places.Places.{Places}
@@ -69,7 +69,7 @@ IsForwardInTime {S} f times tick peers agenda = (forward : Forward S) → get na
 
 -- where it has a link, it is looked at once its time is over
 abbrev pub IsForwardWatched : {S : Type 0} → ℕ → Times → Peers S → Agenda → Type 0
-IsForwardWatched f times peers agenda = (progress : Progress) → progress_of f peers ≡ Some progress → is_due_up_to timeouts.Origin f (forward_due progress times.patience + 1) agenda ≡ true
+IsForwardWatched f times peers agenda = (progress : ForwardProgress) → progress_of f peers ≡ Some progress → is_due_up_to timeouts.Origin f (forward_due progress times.patience + 1) agenda ≡ true
 
 -- whatever may go on at its link is noted
 abbrev pub IsForwardSeenTo : {S : Type 0} → ℕ → Peers S → Agenda → Type 0

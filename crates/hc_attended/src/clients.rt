@@ -27,7 +27,7 @@ use std::alloc::AllocError;
 
 impl<W: World> Attended<W> {
     ghost use Rattle.hc_agenda.specs.Turns.{IsFirstTurn};
-    ghost use Rattle.hc_events.specs.declared.Happening.TheVariants.{ClientOpened};
+    ghost use Rattle.hc_service.specs.declared.event.Happening.TheVariants.{ClientOpened};
     ghost use Rattle.hc_order.specs.Log.{Move};
     ghost use Rattle.hc_order.specs.Log.Move.{Closed};
     ghost use Rattle.hc_order.specs.Mirrors.{MayHappen};

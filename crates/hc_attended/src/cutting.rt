@@ -8,7 +8,7 @@ use crate::forwards::{lose, lose_now};
 use crate::world::World;
 use hc_agenda::Heaviest;
 use hc_flow::Stream;
-use hc_link_traits::Awaiting;
+use hc_links::Awaiting;
 use hc_order::{Reason, Receiver};
 use hc_peers::Peers;
 use std::alloc::AllocError;
@@ -67,7 +67,7 @@ impl<W: World> Attended<W> {
         abandoned: u64,
     ) -> Result<Waiters, AllocError>
         ensures kept { KeepsPeers W.Stream.has_given W.Stream.has_got self.old.peers self.new.peers }
-        // It fails for that only where it is abandoned, by what the cache may answer.
+        // It fails for that only where it is abandoned, by what the cache may return.
         ensures only { (IsAbandoned (A.needed cache.now) (A.clients cache.now) (self.old.time.tick - abandoned) forward self.old.peers) ⊎ (self.new.peers ≡ self.old.peers) }
         ensures others { KeepsAllBut forward self.old.peers self.new.peers }
     {

@@ -23,9 +23,9 @@ use crate::lingering::free_place;
 use crate::seeing::{begin_turn, see_to_forward};
 use crate::times::Times;
 use crate::world::World;
-use hc_agenda::{Agenda, Candidate, Timeout};
-use hc_events::Trouble;
-use hc_flow::{Heard, Progress, Readiness, Stream};
+use hc_agenda::{Agenda, PlaceCandidate, Timeout};
+use hc_flow::{ForwardProgress, Heard, Readiness, Stream};
+use hc_incoming::Trouble;
 use hc_order::{Reason, Receiver};
 use hc_peers::Peers;
 use std::alloc::AllocError;
@@ -33,7 +33,7 @@ use std::alloc::AllocError;
 impl<W: World> Attended<W> {
     ghost use Rattle.hc_agenda.specs.Places.{IsNext, TakesForward, count_waiting, first_in, opened_in};
     ghost use Rattle.hc_agenda.specs.Turns.{IsFirstTurn};
-    ghost use Rattle.hc_agenda.specs.declared.places.Candidate.{Candidate};
+    ghost use Rattle.hc_agenda.specs.declared.places.PlaceCandidate.{PlaceCandidate};
     ghost use Rattle.hc_order.specs.declared.occurrence.Reason.TheVariants.{Late};
     ghost use Rattle.hc_peers.specs.Behind.{can_retry};
     ghost use Rattle.hc_peers.specs.Heard.{NoAnswer, told};
@@ -99,7 +99,7 @@ impl<W: World> Attended<W> {
     }
 
     /// The next forward that may have a place stands in line no more: it isn't there, or waits for no link.
-    pub fn skip_candidate(&mut self, candidate: Candidate)
+    pub fn skip_candidate(&mut self, candidate: PlaceCandidate)
         requires next { IsNext self.old.peers.places (Some candidate) }
         requires gone { is_waiting_at candidate.forward self.old.peers.forwards.links ≡ false }
         ensures kept { KeepsPeers W.Stream.has_given W.Stream.has_got self.old.peers self.new.peers }
@@ -112,7 +112,7 @@ impl<W: World> Attended<W> {
 
     /// The next forward that may have a place gets it, and the link that began to be made for it. It fails where none could
     /// be made, or there is no memory for it. Returns whether it has a link.
-    pub fn reach(&mut self, candidate: Candidate, stream: Option<W::Stream>) -> bool
+    pub fn reach(&mut self, candidate: PlaceCandidate, stream: Option<W::Stream>) -> bool
         requires next { IsNext self.old.peers.places (Some candidate) }
         requires waits { is_waiting_at candidate.forward self.old.peers.forwards.links ≡ true }
         ensures kept { IfSome stream (λ fresh. W.Stream.has_given fresh [] × W.Stream.has_got fresh []) → KeepsPeers W.Stream.has_given W.Stream.has_got self.old.peers self.new.peers }
@@ -403,7 +403,7 @@ pub(crate) fn watch_on<S: Stream + Drop>(
 }
 
 /// How a forward is getting on at its link, if it has one.
-fn progress_of<S: Stream + Drop>(peers: &Peers<S>, forward: u64) -> Option<Progress>
+fn progress_of<S: Stream + Drop>(peers: &Peers<S>, forward: u64) -> Option<ForwardProgress>
     ensures { result ≡ progress_of forward peers.now }
 {
     match peers.forwards.get(forward) {

@@ -12,7 +12,7 @@ use std::alloc::AllocError;
 
 impl<W: World> Attended<W> {
     ghost use Rattle.hc_agenda.specs.Agendas.{IsFirstOwed, owed_in};
-    ghost use Rattle.hc_link_traits.specs.Telling.{TellsSent};
+    ghost use Rattle.hc_links.specs.Telling.{TellsSent};
     ghost use Rattle.hc_order.specs.Log.{Move};
     ghost use Rattle.hc_order.specs.declared.receiver.Receiver.TheVariants.{Client, Origin};
     ghost use Rattle.hc_peers.specs.Keeping.{KeepsPeers};

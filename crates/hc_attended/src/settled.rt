@@ -7,7 +7,7 @@ ghost use Rattle.std.specs.Ordering.{nat_cmp};
 ghost use Rattle.hc_order.specs.declared.receiver.Receiver.TheVariants as to;
 ghost use Rattle.hc_flow.specs.Flows.{is_owed};
 ghost use Rattle.hc_flow.specs.Paces.{forward_due, next_look};
-ghost use Rattle.hc_flow.specs.declared.progress.Progress.{Progress};
+ghost use Rattle.hc_flow.specs.declared.progress.ForwardProgress.{ForwardProgress};
 ghost use Rattle.hc_agenda.specs.declared.agenda.Agenda.{Agenda};
 ghost use Rattle.hc_agenda.specs.declared.deadline.Timeout.{Timeout};
 ghost use Rattle.hc_agenda.specs.declared.deadline.Timeout.TheVariants as timeouts;
@@ -41,7 +41,7 @@ pub fn nothing_is_left_lying<S: Stream + Drop>()
         → IsSettled times tick peers agenda → get nat_cmp peers.forwards.links f ≡ Some forward
         → Contains (all_of agenda.turns) (to.Origin f) ⊎ (((is_waiting forward.reaching ≡ true) × WaitsForPlace f times tick peers.places agenda)
         ⊎ LinkWaitsForOthers forward.ended forward.reaching) }
-    ensures in_time { (times : Times) (tick : ℕ) (peers : Peers S) (agenda : Agenda) (f : ℕ) (forward : Forward S) (progress : Progress)
+    ensures in_time { (times : Times) (tick : ℕ) (peers : Peers S) (agenda : Agenda) (f : ℕ) (forward : Forward S) (progress : ForwardProgress)
         → IsSettled times tick peers agenda → get nat_cmp peers.forwards.links f ≡ Some forward → progress_at forward.reaching ≡ Some progress
         → is_due_up_to timeouts.Origin f (forward_due progress times.patience + 1) agenda ≡ true }
     ensures owed { (times : Times) (tick : ℕ) (peers : Peers S) (agenda : Agenda) (f : ℕ) (forward : Forward S)

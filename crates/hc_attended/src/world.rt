@@ -57,11 +57,13 @@ pub trait World {
     fn accept(&mut self, guest: u64) -> Accepted<Self::Stream>
         ensures { IsFreshlyAccepted Self.Stream.has_given Self.Stream.has_got result };
 
-    /// Whether clients have connected is told anew: as what is ready, if one has. Answers whether the system does that.
+    /// Whether clients have connected is told anew: as what is ready, if one has. Returns whether the system
+    /// does that.
     fn ask_for_clients(&mut self) -> bool;
 
-    /// From now on what becomes ready at a guest's link is told as that of the client of that number. Nothing is read from
-    /// it, nor written to it. Answers whether the system does that; where it doesn't, nothing more may be told of the link.
+    /// From now on what becomes ready at a guest's link is told as that of the client of that number. Nothing
+    /// is read from it, nor written to it. Returns whether the system does that; where it doesn't, nothing
+    /// more may be told of the link.
     fn rename(&mut self, stream: &mut Self::Stream, number: u64) -> bool
         ensures given { Stays (Self.Stream.has_given stream.old) (Self.Stream.has_given stream.new) }
         ensures got { Stays (Self.Stream.has_got stream.old) (Self.Stream.has_got stream.new) };

@@ -4,8 +4,8 @@ use Rattle.hc_history.specs.declared.settings.Settings.{Settings}
 use Rattle.hc_history.specs.declared.verdicts.Verdict.{Verdict}
 use Rattle.hc_history.specs.Seen.{Seen}
 use Rattle.hc_history.specs.Verdicts.{IsVerdict}
-use Rattle.hc_audit.specs.declared.auditor.Stage.{Stage}
-use Rattle.hc_audit.specs.declared.auditor.Stage.TheVariants.{Open, Settled, Failed}
+use Rattle.hc_audit.specs.declared.auditor.AuditStage.{AuditStage}
+use Rattle.hc_audit.specs.declared.auditor.AuditStage.TheVariants.{Open, Settled, Failed}
 use Rattle.hc_audit.specs.declared.judge.Judge.{Judge}
 use Rattle.hc_audit.specs.Standing.{MayChange}
 use Rattle.hc_audit.specs.Judging.{IsWaiting}
@@ -19,21 +19,21 @@ open_is_settled : {I : Type 0} (judge : Judge I) (v : Verdict) → Open judge �
 open_is_settled judge v e = cc
 
 -- where no verdict stands, that of the octets may change
-pub unsettled_may_change : {I : Type 0} (seen : I → Seen) (stage : Stage I) (settings : Settings) (octets : List ℕ) (verdict : Verdict) → settled_by stage ≡ None
+pub unsettled_may_change : {I : Type 0} (seen : I → Seen) (stage : AuditStage I) (settings : Settings) (octets : List ℕ) (verdict : Verdict) → settled_by stage ≡ None
     → AgreesBy seen stage settings octets → IsVerdict octets settings verdict → MayChange verdict
 unsettled_may_change seen (Open judge) settings octets verdict none agrees is = may_change seen judge octets settings verdict agrees is
 unsettled_may_change seen (Settled known) settings octets verdict none agrees is = absurd (some_is_none known none)
 unsettled_may_change seen Failed settings octets verdict none agrees is = absurd agrees
 
 -- a verdict that stands is that of the octets
-pub settled_is : {I : Type 0} (seen : I → Seen) (stage : Stage I) (settings : Settings) (octets : List ℕ) (verdict : Verdict) → stage ≡ Settled verdict
+pub settled_is : {I : Type 0} (seen : I → Seen) (stage : AuditStage I) (settings : Settings) (octets : List ℕ) (verdict : Verdict) → stage ≡ Settled verdict
     → AgreesBy seen stage settings octets → IsVerdict octets settings verdict
 settled_is {I} seen stage settings octets verdict is agrees =
-    let stands = subst (λ (s : Stage I). AgreesBy seen s settings octets) is agrees in
+    let stands = subst (λ (s : AuditStage I). AgreesBy seen s settings octets) is agrees in
     subst (λ (o : List ℕ). IsVerdict o settings verdict) (append-nil octets) (stands.holds [])
 
 -- it stands on
-pub settled_goes_on : {I : Type 0} (seen : I → Seen) (stage : Stage I) (settings : Settings) (octets more : List ℕ) (verdict : Verdict) → stage ≡ Settled verdict
+pub settled_goes_on : {I : Type 0} (seen : I → Seen) (stage : AuditStage I) (settings : Settings) (octets more : List ℕ) (verdict : Verdict) → stage ≡ Settled verdict
     → AgreesBy seen stage settings octets → AgreesBy seen stage settings (octets ++ more)
 settled_goes_on seen (Open judge) settings octets more verdict is agrees = absurd (open_is_settled judge verdict is)
 settled_goes_on seen (Settled known) settings octets more verdict is agrees = record {
@@ -43,6 +43,6 @@ settled_goes_on seen (Settled known) settings octets more verdict is agrees = re
 settled_goes_on seen Failed settings octets more verdict is agrees = absurd agrees
 
 -- an auditor that is open
-pub open_is : {I : Type 0} (seen : I → Seen) (stage : Stage I) (settings : Settings) (octets : List ℕ) (judge : Judge I) → stage ≡ Open judge
+pub open_is : {I : Type 0} (seen : I → Seen) (stage : AuditStage I) (settings : Settings) (octets : List ℕ) (judge : Judge I) → stage ≡ Open judge
     → AgreesBy seen stage settings octets → IsWaiting seen judge settings octets
-open_is {I} seen stage settings octets judge is agrees = subst (λ (s : Stage I). AgreesBy seen s settings octets) is agrees
+open_is {I} seen stage settings octets judge is agrees = subst (λ (s : AuditStage I). AgreesBy seen s settings octets) is agrees

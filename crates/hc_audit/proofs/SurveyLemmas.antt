@@ -32,8 +32,8 @@ use Rattle.hc_history.specs.WrongReplies.{wrong_after, AreWrongIn, AreWrongRepli
 use Rattle.hc_history.proofs.FoundLemmas.{found_right, found_wrong}
 use Rattle.hc_history.proofs.WrongLemmas.{one_list}
 use Rattle.hc_audit.specs.declared.judge.Judge.{Judge}
-use Rattle.hc_audit.specs.declared.survey.Reach.{Reach}
-use Rattle.hc_audit.specs.declared.survey.Reach.TheVariants.{Open, Ended, Failed}
+use Rattle.hc_audit.specs.declared.survey.SurveyStage.{SurveyStage}
+use Rattle.hc_audit.specs.declared.survey.SurveyStage.TheVariants.{Open, Ended, Failed}
 use Rattle.hc_audit.specs.declared.witness.JudgedReply.{JudgedReply}
 use Rattle.hc_audit.specs.Endings.{EndsSo, IsSurveyOf, MayGoOn}
 use Rattle.hc_audit.specs.Hearing.{IsReplyBehind, item_judged}
@@ -249,9 +249,9 @@ may_go_on r octets settings records h wrongs agrees wrong waits = go r.format ag
     go (Some format) reads wrong waits = ends_behind format octets settings records h (waiting r) wrongs reads (wrong format refl) waits
 
 -- a survey that is open
-pub open_is : {I : Type 0} (seen : I → Seen) (reach : Reach I) (settings : Settings) (octets : List ℕ) (h : List Item) (wrongs : List WrongReply) (judge : Judge I) → reach ≡ Open judge
+pub open_is : {I : Type 0} (seen : I → Seen) (reach : SurveyStage I) (settings : Settings) (octets : List ℕ) (h : List Item) (wrongs : List WrongReply) (judge : Judge I) → reach ≡ Open judge
     → SurveysBy seen reach settings octets h wrongs → IsSurveyed seen judge settings octets h wrongs
-open_is {I} seen reach settings octets h wrongs judge is surveys = subst (λ (s : Reach I). SurveysBy seen s settings octets h wrongs) is surveys
+open_is {I} seen reach settings octets h wrongs judge is surveys = subst (λ (s : SurveyStage I). SurveysBy seen s settings octets h wrongs) is surveys
 
 -- ---- what is counted
 
@@ -259,7 +259,7 @@ counted_nothing : (o : Option Format) (settings : Settings) (h : List Item) (cou
 counted_nothing None settings h counts are none = are First tt ∙ ap (counts_of First settings) none
 counted_nothing (Some format) settings h counts are none = are format refl ∙ ap (counts_of format settings) none
 
-pub open_counts_all : {I : Type 0} (seen : I → Seen) (reach : Reach I) (settings : Settings) (octets : List ℕ) (h : List Item) (wrongs : List WrongReply) (judge : Judge I) → reach ≡ Open judge
+pub open_counts_all : {I : Type 0} (seen : I → Seen) (reach : SurveyStage I) (settings : Settings) (octets : List ℕ) (h : List Item) (wrongs : List WrongReply) (judge : Judge I) → reach ≡ Open judge
     → SurveysBy seen reach settings octets h wrongs → AreCounted octets settings h judge.counts
 open_counts_all seen reach settings octets h wrongs judge is surveys =
     let w = open_is seen reach settings octets h wrongs judge is surveys in
@@ -321,7 +321,7 @@ counted r octets settings records h counts agrees wrong waits counts-are whole =
     go (Some format) reads wrong waits are =
         subst (λ (c : Counts). IsVerdict octets settings (Yes c)) (sym (are format refl)) (counted_behind format octets settings records h (waiting r) reads (wrong format refl) waits whole)
 
-pub open_counts : {I : Type 0} (seen : I → Seen) (reach : Reach I) (settings : Settings) (octets : List ℕ) (h : List Item) (judge : Judge I) → reach ≡ Open judge
+pub open_counts : {I : Type 0} (seen : I → Seen) (reach : SurveyStage I) (settings : Settings) (octets : List ℕ) (h : List Item) (judge : Judge I) → reach ≡ Open judge
     → SurveysBy seen reach settings octets h [] → AreWrongReplies octets settings [] Whole → IsVerdict octets settings (Yes judge.counts)
 open_counts seen reach settings octets h judge is surveys whole =
     let w = open_is seen reach settings octets h [] judge is surveys in
@@ -336,7 +336,7 @@ open_is_ended : {I : Type 0} (judge : Judge I) (e : Ending) → Open judge ≡ E
 open_is_ended judge e is = cc
 
 -- where no ending holds yet, that of the octets may go on, and these are their wrong replies
-pub open_may_go_on : {I : Type 0} (seen : I → Seen) (reach : Reach I) (settings : Settings) (octets : List ℕ) (h : List Item) (wrongs all : List WrongReply) (ending : Ending)
+pub open_may_go_on : {I : Type 0} (seen : I → Seen) (reach : SurveyStage I) (settings : Settings) (octets : List ℕ) (h : List Item) (wrongs all : List WrongReply) (ending : Ending)
     → ended_by reach ≡ None → SurveysBy seen reach settings octets h wrongs → AreWrongReplies octets settings all ending → MayGoOn ending × (all ≡ wrongs)
 open_may_go_on seen (Open judge) settings octets h wrongs all ending none w are =
     let k = w.surveying in
@@ -348,14 +348,14 @@ open_may_go_on seen Failed settings octets h wrongs all ending none w are = absu
 -- ---- an ending that holds
 
 -- is that of the octets
-pub ended_is : {I : Type 0} (seen : I → Seen) (reach : Reach I) (settings : Settings) (octets : List ℕ) (h : List Item) (wrongs : List WrongReply) (ending : Ending) → reach ≡ Ended ending
+pub ended_is : {I : Type 0} (seen : I → Seen) (reach : SurveyStage I) (settings : Settings) (octets : List ℕ) (h : List Item) (wrongs : List WrongReply) (ending : Ending) → reach ≡ Ended ending
     → SurveysBy seen reach settings octets h wrongs → IsSurveyOf octets settings h wrongs ending
 ended_is {I} seen reach settings octets h wrongs ending is surveys =
-    let ends = subst (λ (s : Reach I). SurveysBy seen s settings octets h wrongs) is surveys in
+    let ends = subst (λ (s : SurveyStage I). SurveysBy seen s settings octets h wrongs) is surveys in
     subst (λ (o : List ℕ). IsSurveyOf o settings h wrongs ending) (append-nil octets) (ends.holds [])
 
 -- holds on
-pub ended_goes_on : {I : Type 0} (seen : I → Seen) (reach : Reach I) (settings : Settings) (octets more : List ℕ) (h : List Item) (wrongs : List WrongReply) (ending : Ending) → reach ≡ Ended ending
+pub ended_goes_on : {I : Type 0} (seen : I → Seen) (reach : SurveyStage I) (settings : Settings) (octets more : List ℕ) (h : List Item) (wrongs : List WrongReply) (ending : Ending) → reach ≡ Ended ending
     → SurveysBy seen reach settings octets h wrongs → SurveysBy seen reach settings (octets ++ more) h wrongs
 ended_goes_on seen (Open judge) settings octets more h wrongs ending is surveys = absurd (open_is_ended judge ending is)
 ended_goes_on seen (Ended known) settings octets more h wrongs ending is surveys = record {

@@ -17,8 +17,8 @@ use Rattle.hc_history.specs.Seen.{Seen}
 use Rattle.hc_history.specs.WrongReplies.{wrong_after, AreWrongIn}
 use Rattle.hc_audit.specs.declared.judge.Judge.{Judge}
 use Rattle.hc_audit.specs.declared.survey.Survey.{Survey}
-use Rattle.hc_audit.specs.declared.survey.Reach.{Reach}
-use Rattle.hc_audit.specs.declared.survey.Reach.TheVariants.{Open, Ended, Failed}
+use Rattle.hc_audit.specs.declared.survey.SurveyStage.{SurveyStage}
+use Rattle.hc_audit.specs.declared.survey.SurveyStage.TheVariants.{Open, Ended, Failed}
 use Rattle.hc_audit.specs.Endings.{EndsSo}
 use Rattle.hc_audit.specs.Told.{IsToldOf}
 use Rattle.hc_audit.specs.Judging.{MayBeOf, HasRead, IsAhead}
@@ -67,7 +67,7 @@ module _ {I : Type 0} (seen : I → Seen) where
 
 -- it was given these settings and was fed these octets, in whatever pieces, and has told of these items and these wrong replies: they are those of the whole
 -- records among the octets, or of all octets, where it has the ending that holds however they go on
-abbrev pub SurveysBy : {I : Type 0} → (I → Seen) → Reach I → Settings → List ℕ → List Item → List WrongReply → Type 0
+abbrev pub SurveysBy : {I : Type 0} → (I → Seen) → SurveyStage I → Settings → List ℕ → List Item → List WrongReply → Type 0
 SurveysBy seen (Open judge) settings octets h wrongs = IsSurveyed seen judge settings octets h wrongs
 SurveysBy seen (Ended ending) settings octets h wrongs = EndsSo ending settings octets h wrongs
 SurveysBy seen Failed settings octets h wrongs = ⊥
@@ -80,7 +80,7 @@ abbrev pub HasFailed : {I : Type 0} → Survey I → Type 0
 HasFailed survey = survey.reach ≡ Failed
 
 -- the ending that it knows to hold
-abbrev pub ended_by : {I : Type 0} → Reach I → Option Ending
+abbrev pub ended_by : {I : Type 0} → SurveyStage I → Option Ending
 ended_by (Open judge) = None
 ended_by (Ended ending) = Some ending
 ended_by Failed = None
@@ -89,7 +89,7 @@ abbrev pub ended : {I : Type 0} → Survey I → Option Ending
 ended survey = ended_by survey.reach
 
 -- how many octets wait to be judged: none where they have broken, or a fault was answered
-abbrev pub rest_by : {I : Type 0} → Reach I → ℕ
+abbrev pub rest_by : {I : Type 0} → SurveyStage I → ℕ
 rest_by (Open judge) = octets_held judge.reader
 rest_by (Ended ending) = 0
 rest_by Failed = 0

@@ -18,7 +18,7 @@ use std::alloc::Global;
 
 /// How far an audit has come.
 #[derive(Drop)]
-enum Stage<I> {
+enum AuditStage<I> {
     /// Every reply so far is right.
     Open(Judge<I>),
     /// The verdict holds however the octets go on.
@@ -31,7 +31,7 @@ enum Stage<I> {
 /// only the octets of a record that isn't whole yet wait.
 #[derive(Drop)]
 pub struct Auditor<I> {
-    stage: Stage<I>,
+    stage: AuditStage<I>,
 }
 
 impl<I: Index + Drop> Auditor<I> {
@@ -42,12 +42,12 @@ impl<I: Index + Drop> Auditor<I> {
         ensures { ((format : Format) → IsSeenAs format (I.seen index) []) → Agrees I.seen result settings [] }
     {
         Auditor {
-            stage: Stage::Open(Judge::new(alloc, index, settings)),
+            stage: AuditStage::Open(Judge::new(alloc, index, settings)),
         }
     }
 
     /// Takes the next piece of the transcript, and judges the records that are whole then. Once a verdict
-    /// stands, nothing behind it is read. After an `Err` it answers `Failed` for ever.
+    /// stands, nothing behind it is read. After an `Err` it returns `Failed` for ever.
     pub fn feed(&mut self, piece: &[u8]) -> Result<(), AuditFault>
         ensures ok { (settings : Settings) (octets : List ℕ) → Agrees I.seen self.old settings octets
             → OnOk result (Agrees I.seen self.new settings (octets ++ piece.now)) }
@@ -58,30 +58,30 @@ impl<I: Index + Drop> Auditor<I> {
         ensures failed { HasFailed self.old → (result ≡ Err AuditFault.Failed) × (self.new ≡ self.old) }
     {
         let judge = match &mut self.stage {
-            Stage::Open(judge) => judge,
-            Stage::Settled(_) => return Ok(()),
-            Stage::Failed => return Err(AuditFault::Failed),
+            AuditStage::Open(judge) => judge,
+            AuditStage::Settled(_) => return Ok(()),
+            AuditStage::Failed => return Err(AuditFault::Failed),
         };
         match judge.feed(piece) {
             Ok(None) => Ok(()),
             Ok(Some(verdict)) => {
-                self.stage = Stage::Settled(verdict);
+                self.stage = AuditStage::Settled(verdict);
                 Ok(())
             }
             Err(_) => {
-                self.stage = Stage::Failed;
+                self.stage = AuditStage::Failed;
                 Err(AuditFault::Memory)
             }
         }
     }
 
-    /// How many octets wait to be judged, 0 where a verdict stands or a fault was answered.
+    /// How many octets wait to be judged, 0 where a verdict stands or a fault was returned.
     pub fn rest(&self) -> usize
         ensures { result ≡ rest self.now }
     {
         match &self.stage {
-            Stage::Open(judge) => judge.rest(),
-            Stage::Settled(_) | Stage::Failed => 0,
+            AuditStage::Open(judge) => judge.rest(),
+            AuditStage::Settled(_) | AuditStage::Failed => 0,
         }
     }
 
@@ -97,9 +97,9 @@ impl<I: Index + Drop> Auditor<I> {
         ensures failed { HasFailed self.now → result ≡ None }
     {
         match &self.stage {
-            Stage::Settled(verdict) => Some(verdict),
-            Stage::Open(_) => None,
-            Stage::Failed => None,
+            AuditStage::Settled(verdict) => Some(verdict),
+            AuditStage::Open(_) => None,
+            AuditStage::Failed => None,
         }
     }
 
@@ -111,9 +111,9 @@ impl<I: Index + Drop> Auditor<I> {
         ensures failed { HasFailed self → result ≡ Err AuditFault.Failed }
     {
         match self.stage {
-            Stage::Open(judge) => Ok(judge.finish()),
-            Stage::Settled(verdict) => Ok(verdict),
-            Stage::Failed => Err(AuditFault::Failed),
+            AuditStage::Open(judge) => Ok(judge.finish()),
+            AuditStage::Settled(verdict) => Ok(verdict),
+            AuditStage::Failed => Err(AuditFault::Failed),
         }
     }
 }

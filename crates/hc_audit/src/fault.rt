@@ -8,7 +8,7 @@ pub enum AuditFault {
     /// Memory was refused.
     #[error("out of memory")]
     Memory,
-    /// A fault was answered before.
+    /// A fault was returned before.
     #[error("a fault was met before")]
     Failed,
 }

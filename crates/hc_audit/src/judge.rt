@@ -183,7 +183,7 @@ impl<I: Index + Drop> Judge<I> {
         Ok(())
     }
 
-    /// Takes a piece, and judges each record that is whole then. It answers the verdict that stands, if
+    /// Takes a piece, and judges each record that is whole then. It returns the verdict that stands, if
     /// there is one now.
     pub(crate) fn feed(&mut self, piece: &[u8]) -> Result<Option<Verdict>, AllocError>
         ensures gives { (settings : Settings) (octets : List ℕ) → IsWaiting I.seen self.old settings octets
@@ -194,7 +194,7 @@ impl<I: Index + Drop> Judge<I> {
         self.judge_whole()
     }
 
-    /// Judges each record that is whole. It answers the verdict that stands, if there is one now.
+    /// Judges each record that is whole. It returns the verdict that stands, if there is one now.
     fn judge_whole(&mut self) -> Result<Option<Verdict>, AllocError>
         ensures gives { (settings : Settings) (octets : List ℕ) → IsJudging I.seen self.old settings octets
             → GivesJudged I.seen result self.new settings octets }

@@ -1,5 +1,5 @@
-//! The auditor: it reads a transcript in pieces, and answers the verdict on it, by whatever index. A survey goes on
-//! behind a wrong reply, and tells of all of them.
+//! The auditor: it reads a transcript in pieces, and returns the verdict on it, by whatever index. A survey
+//! goes on behind a wrong reply, and tells of all of them.
 #![tactic(auto)]
 
 mod auditor;

@@ -23,7 +23,7 @@ use std::alloc::Global;
 
 /// How far a survey has come.
 #[derive(Drop)]
-enum Reach<I> {
+enum SurveyStage<I> {
     /// Every record so far keeps to the format.
     Open(Judge<I>),
     /// A record broke the octets, however they go on.
@@ -37,7 +37,7 @@ enum Reach<I> {
 /// yet wait.
 #[derive(Drop)]
 pub struct Survey<I> {
-    reach: Reach<I>,
+    reach: SurveyStage<I>,
 }
 
 impl<I: Index + Drop> Survey<I> {
@@ -48,13 +48,14 @@ impl<I: Index + Drop> Survey<I> {
         ensures { ((format : Format) → IsSeenAs format (I.seen index) []) → Surveys I.seen result settings [] [] [] }
     {
         Survey {
-            reach: Reach::Open(Judge::new(alloc, index, settings)),
+            reach: SurveyStage::Open(Judge::new(alloc, index, settings)),
         }
     }
 
-    /// Takes the next piece of the transcript, judges the records that are whole then, and tells the witness of each,
-    /// right or wrong, with what is known of those before it. Behind a record that breaks the octets nothing is read.
-    /// After an `Err` it answers `Failed` for ever, and nothing is said of what the witness tells.
+    /// Takes the next piece of the transcript, judges the records that are whole then, and tells the witness
+    /// of each, right or wrong, with what is known of those before it. Behind a record that breaks the octets
+    /// nothing is read. After an `Err` it returns `Failed` for ever, and nothing is said of what the witness
+    /// tells.
     pub fn feed<W: Witness<I>>(&mut self, piece: &[u8], witness: &mut W) -> Result<(), AuditFault>
         // A witness that has heard of all records so far has heard of all records then, and so it is with what it tells.
         ensures ok { (settings : Settings) (octets : List ℕ)
@@ -67,30 +68,30 @@ impl<I: Index + Drop> Survey<I> {
         ensures failed { HasFailed self.old → (result ≡ Err AuditFault.Failed) × (self.new ≡ self.old) × (witness.new ≡ witness.old) }
     {
         let judge = match &mut self.reach {
-            Reach::Open(judge) => judge,
-            Reach::Ended(_) => return Ok(()),
-            Reach::Failed => return Err(AuditFault::Failed),
+            SurveyStage::Open(judge) => judge,
+            SurveyStage::Ended(_) => return Ok(()),
+            SurveyStage::Failed => return Err(AuditFault::Failed),
         };
         match judge.survey(piece, witness) {
             Ok(None) => Ok(()),
             Ok(Some(ending)) => {
-                self.reach = Reach::Ended(ending);
+                self.reach = SurveyStage::Ended(ending);
                 Ok(())
             }
             Err(_) => {
-                self.reach = Reach::Failed;
+                self.reach = SurveyStage::Failed;
                 Err(AuditFault::Memory)
             }
         }
     }
 
-    /// How many octets wait to be judged, 0 where a record broke them or a fault was answered.
+    /// How many octets wait to be judged, 0 where a record broke them or a fault was returned.
     pub fn rest(&self) -> usize
         ensures { result ≡ rest self.now }
     {
         match &self.reach {
-            Reach::Open(judge) => judge.rest(),
-            Reach::Ended(_) | Reach::Failed => 0,
+            SurveyStage::Open(judge) => judge.rest(),
+            SurveyStage::Ended(_) | SurveyStage::Failed => 0,
         }
     }
 
@@ -105,14 +106,14 @@ impl<I: Index + Drop> Survey<I> {
         ensures failed { HasFailed self.now → result ≡ None }
     {
         match &self.reach {
-            Reach::Ended(ending) => Some(ending),
-            Reach::Open(_) => None,
-            Reach::Failed => None,
+            SurveyStage::Ended(ending) => Some(ending),
+            SurveyStage::Open(_) => None,
+            SurveyStage::Failed => None,
         }
     }
 
-    /// What was counted of the whole records so far, whether their replies are right or wrong. None where a record broke
-    /// them, or a fault was answered.
+    /// What was counted of the whole records so far, whether their replies are right or wrong. None where a
+    /// record broke them, or a fault was returned.
     pub fn counts(&self) -> Option<Counts>
         ensures counted { (settings : Settings) (octets : List ℕ) (h : List Item) (wrongs : List WrongReply) → Surveys I.seen self.now settings octets h wrongs
             → IfSome result (AreCounted octets settings h) }
@@ -122,9 +123,9 @@ impl<I: Index + Drop> Survey<I> {
         ensures none { result ≡ None → IsSome (ended self.now) ⊎ HasFailed self.now }
     {
         match &self.reach {
-            Reach::Open(judge) => Some(judge.counts()),
-            Reach::Ended(_) => None,
-            Reach::Failed => None,
+            SurveyStage::Open(judge) => Some(judge.counts()),
+            SurveyStage::Ended(_) => None,
+            SurveyStage::Failed => None,
         }
     }
 
@@ -136,9 +137,9 @@ impl<I: Index + Drop> Survey<I> {
         ensures failed { HasFailed self → result ≡ Err AuditFault.Failed }
     {
         match self.reach {
-            Reach::Open(judge) => Ok(judge.end()),
-            Reach::Ended(ending) => Ok(ending),
-            Reach::Failed => Err(AuditFault::Failed),
+            SurveyStage::Open(judge) => Ok(judge.end()),
+            SurveyStage::Ended(ending) => Ok(ending),
+            SurveyStage::Failed => Err(AuditFault::Failed),
         }
     }
 }

@@ -24,7 +24,7 @@ use hc_transcript::{Format, RecordView};
 use std::alloc::AllocError;
 
 impl<I: Index + Drop> Judge<I> {
-    /// Takes a piece, and tells the witness of each record that is whole then. It answers how the octets end,
+    /// Takes a piece, and tells the witness of each record that is whole then. It returns how the octets end,
     /// if they do however they go on.
     pub(crate) fn survey<W: Witness<I>>(
         &mut self,
@@ -40,7 +40,7 @@ impl<I: Index + Drop> Judge<I> {
         self.survey_whole(witness)
     }
 
-    /// Tells the witness of each record that is whole. It answers how the octets end, if they do however they
+    /// Tells the witness of each record that is whole. It returns how the octets end, if they do however they
     /// go on.
     fn survey_whole<W: Witness<I>>(&mut self, witness: &mut W) -> Result<Option<Ending>, AllocError>
         ensures gives { (settings : Settings) (octets : List ℕ)
@@ -73,8 +73,8 @@ impl<I: Index + Drop> Judge<I> {
         Ok(())
     }
 
-    /// Tells the witness of that item, which was read last, with the index of the records before it, and answers its
-    /// mark, if it is a reply.
+    /// Tells the witness of that item, which was read last, with the index of the records before it, and
+    /// returns its mark, if it is a reply.
     fn tell<W: Witness<I>>(
         &self,
         item: &RecordView<'_>,

@@ -21,7 +21,7 @@ use hc_options::AuditTerms;
 use std::alloc::Global;
 use std::io::{Read, Write};
 
-/// Audits the transcript that `input` gives up to its end, or up to where a verdict stands, and answers
+/// Audits the transcript that `input` gives up to its end, or up to where a verdict stands, and returns
 /// the exit status. `name` is what the input is called where it fails.
 ///
 /// A verdict is one line on `output`, and the status is 0 for a transcript that is right, 1 for one with
@@ -53,7 +53,7 @@ pub fn audit<R: Read, W: Write, E: Write>(
     }
 }
 
-// Says the verdict on what `input` gives, which is the answer.
+// Says the verdict on what `input` gives, and returns it.
 fn concluded<R: Read, W: Write>(
     alloc: Global,
     settings: Settings,
@@ -132,7 +132,7 @@ impl<I: Index + Drop> Fed<()> for Auditor<I> {
     }
 }
 
-/// Writes the verdict's line on `output`, and answers its status.
+/// Writes the verdict's line on `output`, and returns its status.
 pub fn said<W: Write>(alloc: Global, verdict: &Verdict, output: &mut W) -> Result<u8, Trouble>
     ensures ok { IfOk result (λ status.
         SaysLine verdict.now status (W.contents output.old) (W.contents output.new)) }

@@ -14,9 +14,9 @@ use std::io::Write;
 /// The exit status of a yes by which too few replies were judged.
 const TOO_FEW: u8 = 4;
 
-/// Ends by a verdict, which was said, and answers the exit status. Where it is yes and fewer replies were judged than
-/// is wanted, `faults` gets a line for each number of them that is too small, and the status is 4. Where these can't be
-/// said, the status is 3.
+/// Ends by a verdict, which was said, and returns the exit status. Where it is yes and fewer replies were
+/// judged than is wanted, `faults` gets a line for each number of them that is too small, and the status
+/// is 4. Where these can't be said, the status is 3.
 pub fn ended<E: Write>(alloc: Global, least: Minimums, verdict: &Verdict, faults: &mut E) -> u8
     ensures { (result ≡ 3) ⊎ EndsBy least verdict.now result (E.contents faults.old) (E.contents faults.new) }
 {
@@ -26,7 +26,7 @@ pub fn ended<E: Write>(alloc: Global, least: Minimums, verdict: &Verdict, faults
     }
 }
 
-// Says what is too few, if anything is, and answers the exit status.
+// Says what is too few, if anything is, and returns the exit status.
 fn ended_by<E: Write>(
     alloc: Global,
     least: Minimums,
@@ -42,7 +42,8 @@ fn ended_by<E: Write>(
     }
 }
 
-// Says what is too few of what was counted in a transcript that is right, if anything is, and answers the exit status.
+// Says what is too few of what was counted in a transcript that is right, if anything is, and returns the
+// exit status.
 fn ended_by_yes<E: Write>(
     alloc: Global,
     least: Minimums,

@@ -28,13 +28,14 @@ pub trait Fed<T> {
     /// What it comes to where it needs no more.
     type Answer: Drop;
 
-    /// By these octets it went from the one to the other, as did who was told, and came to that answer, if it needs no more.
+    /// By these octets it went from the one to the other, as did who was told, and came to that `Answer`, if
+    /// it needs no more.
     ghost goes: { Self → T → Self → T → List ℕ → Option Self.Answer → Type 0 };
 
     /// Why it may give up.
     ghost fails: { Trouble → Type 0 };
 
-    /// Takes the next octets, of which there may be none. There is an answer where it needs no more.
+    /// Takes the next octets, of which there may be none. It returns an `Answer` where it needs no more.
     fn take(&mut self, piece: &[u8], told: &mut T) -> Result<Option<Self::Answer>, Trouble>
         ensures goes { IfOk result (goes self.old told.old self.new told.new piece.now) }
         ensures fails { IfErr result fails };
@@ -48,7 +49,8 @@ pub trait Fed<T> {
         → goes first before last after (some ++ more) answer };
 }
 
-/// Feeds it what `input` gives, a piece at a time, up to the end or to where it needs no more, of which there is its answer.
+/// Feeds it what `input` gives, a piece at a time, up to the end or to where it needs no more, and returns
+/// its `Answer` there.
 pub fn pull<T, F: Fed<T>, R: Read>(
     fed: &mut F,
     told: &mut T,

@@ -34,7 +34,7 @@ impl Trouble {
         }
     }
 
-    /// Says it on `faults`, and answers the exit status. Where a device failed, a second line names
+    /// Says it on `faults`, and returns the exit status. Where a device failed, a second line names
     /// it, by that name where it isn't the output, and gives the system's reason. A write that fails
     /// is passed over.
     pub fn told<E: Write>(self, name: &str, faults: &mut E) -> u8

@@ -1,10 +1,9 @@
 //! Caches, and what they do when something happens.
 
 use crate::trouble::Trouble;
-use hc_events::{Event, Happening};
+use hc_core::Core;
 use hc_fields::Octets;
-use hc_machine::Core;
-use hc_service::{Action, CoreOptions, CoreSettings, StepFault};
+use hc_service::{Action, CoreOptions, CoreSettings, Event, Happening, StepFault};
 use std::alloc::Global;
 use std::hash::BuildHasherDefault;
 
@@ -25,13 +24,13 @@ pub fn empty(alloc: Global, keys: usize, bytes: u64) -> Result<Core, Trouble> {
     Ok(Core::with_options(alloc, settings, BuildHasherDefault::new(), options)?)
 }
 
-/// Hands the cache what happens at that moment, and answers what it does.
+/// Hands the cache what happens at that moment, and returns what it does.
 pub fn step(core: &mut Core, moment: u64, of: Happening) -> Result<Vec<Action>, StepFault> {
     core.step(Event { moment, of })
 }
 
-/// Hands the cache all that happens, and answers how many replies begin with that head, with a body of so many octets
-/// behind it.
+/// Hands the cache all that happens, and returns how many replies begin with that head, with a body of so
+/// many octets behind it.
 pub fn replies_to_all(
     core: &mut Core,
     happen: Vec<Happening>,

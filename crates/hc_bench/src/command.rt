@@ -17,7 +17,7 @@ pub enum Task {
     Hits,
     /// To measure how much memory idle connections take.
     Idle,
-    /// To say what is answered behind a refusal of memory.
+    /// To say what is returned behind a refusal of memory.
     Refusals,
 }
 

@@ -5,7 +5,7 @@ use crate::caches::{empty, replies_to_all};
 use crate::loads::{Load, Way, exchanges, filling};
 use crate::rate::Rate;
 use crate::trouble::Trouble;
-use hc_machine::Core;
+use hc_core::Core;
 use std::alloc::Global;
 use std::io::Write;
 use std::rt::Clock;
@@ -60,7 +60,7 @@ fn count_of(alloc: Global, load: Load) -> Result<usize, Trouble> {
     count_replies(alloc, &mut core, load)
 }
 
-// Fills the cache, and answers how many replies are of that way then.
+// Fills the cache, and returns how many replies are of that way then.
 fn count_replies(alloc: Global, core: &mut Core, load: Load) -> Result<usize, Trouble> {
     let head = load.reply_head(alloc)?;
     replies_to_all(core, filling(alloc, load)?, head.as_slice(), load.body)?;
@@ -129,7 +129,7 @@ fn rate_of<C: Clock>(alloc: Global, clock: &C, load: Load) -> Result<Rate, Troub
     fastest(alloc, clock, &mut core, load)
 }
 
-// Fills the cache, and answers how fast replies of that way are then at best.
+// Fills the cache, and returns how fast replies of that way are then at best.
 fn fastest<C: Clock>(
     alloc: Global,
     clock: &C,

@@ -3,9 +3,9 @@
 use crate::caches::{empty, replies_to, replies_to_all};
 use crate::loads::{Load, Way, ask, filling};
 use crate::trouble::Trouble;
-use hc_events::Happening;
+use hc_core::Core;
 use hc_fields::decimal;
-use hc_machine::Core;
+use hc_service::Happening;
 use std::alloc::Global;
 use std::fs;
 use std::io::Write;

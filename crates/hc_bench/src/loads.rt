@@ -1,8 +1,8 @@
 //! What a cache is asked, what the origin answers, and what clients have to get.
 
 use crate::trouble::Trouble;
-use hc_events::Happening;
 use hc_fields::Octets;
+use hc_service::Happening;
 use std::alloc::{AllocError, Global};
 
 /// Which replies are measured.

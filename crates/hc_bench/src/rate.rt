@@ -1,4 +1,4 @@
-//! How fast messages were read, records audited, or calls answered.
+//! How fast messages were read, records audited, or calls made.
 
 use std::time::Duration;
 

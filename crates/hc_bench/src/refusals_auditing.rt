@@ -45,7 +45,7 @@ pub fn seen(alloc: Global) -> Seen {
     seen.then(next)
 }
 
-// What a piece was answered by.
+// What was returned for a piece.
 fn next_of(fed: Result<(), AuditFault>) -> Next {
     match fed {
         Ok(()) => Next::Answered,

@@ -3,7 +3,7 @@
 /// What was seen of calls, one after another.
 #[derive(Clone, Copy)]
 pub enum Seen {
-    /// Each was answered. A cache whose store finds no memory answers too, in another way.
+    /// Each did what it was asked for. So does a cache whose store finds no memory, in another way.
     Answered,
     /// Memory was refused, and all that came behind is as it has to be.
     Refused,
@@ -21,7 +21,8 @@ impl Seen {
         }
     }
 
-    /// What is seen behind the next call, which was answered, or refused memory, or answered that it was refused before.
+    /// What is seen behind the next call, which did what it was asked for, or was refused memory, or returned
+    /// that it was refused before.
     pub fn then(self, next: Next) -> Self {
         match (self, next) {
             (Seen::Answered, Next::Answered) => Seen::Answered,
@@ -32,7 +33,7 @@ impl Seen {
     }
 }
 
-/// What the next call of what fails for ever answers.
+/// What the next call of what fails for ever returns.
 #[derive(Clone, Copy)]
 pub enum Next {
     /// It does what it is asked for.
@@ -41,6 +42,6 @@ pub enum Next {
     Memory,
     /// It says that memory was refused before.
     Failed,
-    /// It answers something else.
+    /// It returns something else.
     Other,
 }

@@ -3,10 +3,9 @@
 use crate::caches::{empty, step};
 use crate::refusals_seen::{Next, Seen};
 use crate::trouble::Trouble;
-use hc_events::Happening;
+use hc_core::Core;
 use hc_fields::Octets;
-use hc_machine::Core;
-use hc_service::StepFault;
+use hc_service::{Happening, StepFault};
 use std::alloc::{AllocError, Global};
 
 /// A client's request.

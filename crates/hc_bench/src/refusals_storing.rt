@@ -5,7 +5,7 @@ use crate::responses::{MOMENT, forward, response_fields, target_of};
 use crate::storing::{filled, response_of};
 use crate::trouble::Trouble;
 use hc_head::{ResponseHead, StatusCode, Version};
-use hc_store::{Put, Store};
+use hc_store::{NotModified, Put, Store};
 use std::alloc::{AllocError, Global};
 
 /// How many targets the store keeps.
@@ -38,12 +38,19 @@ pub fn seen_of_freshen(alloc: Global) -> Result<Seen, Trouble> {
     }
 }
 
-// Freshens what is stored of the first target, and answers whether it is there as the 304 has left it.
+// Freshens what is stored of the first target, and returns whether it is there as the 304 has left it.
 fn is_freshened(alloc: Global, store: &mut Store) -> Result<bool, AllocError> {
     let target = target_of(alloc, 0)?;
     let forward = forward(alloc, 0)?;
-    let not_modified = not_modified(alloc)?;
-    store.freshen(&target, &forward, &not_modified, MOMENT, MOMENT, POSITION);
+    let head = not_modified(alloc)?;
+    let validation = NotModified {
+        forward: &forward,
+        head: &head,
+        request_time: MOMENT,
+        response_time: MOMENT,
+        position: POSITION,
+    };
+    store.freshen(&target, validation);
     Ok(
         store
             .choose_validated(&target, &forward.fields, POSITION)?

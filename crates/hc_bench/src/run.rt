@@ -17,7 +17,7 @@ use std::env;
 use std::io::Write;
 use std::rt::{Clock, Env, Files};
 
-/// Does what the program's own arguments ask, and answers its exit status.
+/// Does what the program's own arguments ask, and returns its exit status.
 pub fn status<R, W: Write, E: Write>(rt: &R, output: &mut W, faults: &mut E) -> u8
 where
     R: Clock + Env + Files + AllocGlobal,
@@ -34,7 +34,7 @@ fn arguments<R: Env + AllocGlobal>(rt: &R) -> Result<Vec<String>, Trouble> {
     Ok(env::args(rt)?.collect(rt.alloc())?)
 }
 
-/// Does what the words ask, of which the first is the program's name, and answers the exit status:
+/// Does what the words ask, of which the first is the program's name, and returns the exit status:
 /// 0, 64 for words that ask for nothing known, or 3 where something went wrong.
 pub fn answered<R, S: AsStr, W: Write, E: Write>(
     rt: &R,
@@ -63,7 +63,7 @@ where
     }
 }
 
-// Says how the program is called, and answers its exit status.
+// Says how the program is called, and returns its exit status.
 fn refused<E: Write>(faults: &mut E) -> u8
     ensures { result ≡ 64 }
 {

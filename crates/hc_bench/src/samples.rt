@@ -34,8 +34,8 @@ impl Clock for Ticks {
     }
 }
 
-/// Counts calls, then measures short messages and a small store, each in a microsecond, so that what is said is always
-/// the same, counts replies, and says what is answered where no memory is refused.
+/// Counts calls, then measures short messages and a small store, each in a microsecond, so that what is said
+/// is always the same, counts replies, and says what is returned where no memory is refused.
 pub fn sample<W: Write>(alloc: Global, output: &mut W) -> Result<(), Trouble> {
     let clock = Ticks {
         microseconds: Cell::new(0),

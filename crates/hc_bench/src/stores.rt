@@ -1,4 +1,4 @@
-//! Stores of few keys and of many, and how fast they answer and take responses.
+//! Stores of few keys and of many, and how fast they give and take responses.
 ghost use Rattle.std.specs.Prelude.{◌≡◌, ◌<◌, ◌≤◌, IfOk, length};
 
 use crate::lines::store_line;

@@ -3,8 +3,8 @@ ghost use Rattle.std.specs.Prelude.{◌≡◌};
 ghost use Rattle.hc_bench.specs.declared.trouble.Trouble.TheVariants.{Memory};
 
 use crate::print::printed;
+use hc_core::CoreFault;
 use hc_framing::FrameFault;
-use hc_machine::CoreFault;
 use hc_service::StepFault;
 use std::alloc::{AllocError, AllocFailed};
 use std::io;
@@ -38,7 +38,7 @@ impl Trouble {
     /// The exit status of a program that ends so.
     pub const STATUS: u8 = 3;
 
-    /// Says it on `faults`, and answers the exit status. A write that fails is passed over.
+    /// Says it on `faults`, and returns the exit status. A write that fails is passed over.
     pub fn told<E: Write>(self, faults: &mut E) -> u8
         ensures { result ≡ 3 }
     {

@@ -14,7 +14,7 @@ use std::{fs, io};
 /// The file that lists the cases of a program.
 const LIST: &str = "cases.txt";
 
-/// Answers the cases of the program's list, and answers the exit status: 1 where the list can't be
+/// Answers the cases of the program's list, and returns the exit status: 1 where the list can't be
 /// read, memory is refused or the answers can't be written, and a line on `faults` says so.
 pub fn status<R, A: Ask, W: Write, E: Write>(
     rt: &R,

@@ -2,24 +2,24 @@
 use Rattle.std.proofs.Common.{◌≡◌, ℕ, List, [], ◌++◌, Option, None, ◌∙◌, ap, inl, inr, subst, sym}
 use Rattle.std.specs.Io.KnownBytes.{Appends, Consumes, IsAtEnd}
 use Rattle.std.proofs.KnownBytes.{Appends-trans}
-use Rattle.hc_shown.specs.declared.showing.Reach.{Reach}
-use Rattle.hc_shown.specs.declared.showing.Reach.TheVariants as reach
+use Rattle.hc_shown.specs.declared.showing.ShowingStage.{ShowingStage}
+use Rattle.hc_shown.specs.declared.showing.ShowingStage.TheVariants as stage
 use Rattle.hc_shown.specs.declared.showing.Showing.{Showing}
 use Rattle.hc_shown.specs.declared.span.Span.{Span}
-use Rattle.hc_shown.specs.Showings.{GivesReach, Reaches}
+use Rattle.hc_shown.specs.Showings.{GivesStage, IsAtStage}
 use Rattle.hc_command.specs.declared.showing.Shown.{Shown}
 use Rattle.hc_command.specs.declared.showing.Shown.TheVariants.{Fewer}
 use Rattle.hc_command.specs.Show.{ComesTo, GoesOn, PutsOut, ShownFor, ShowsFor, ShowsOf, shown_end, stopped_by}
 
 -- what a showing has come to, where more may come if it isn't the end
-comes_to : (r : Reach) (s : Showing) (span : Span) (octets text : List ℕ) → Reaches r s span octets text → ComesTo s span octets text (stopped_by r)
-comes_to reach.More s span octets text is = is
-comes_to reach.Last s span octets text is = (is, λ never. absurd cc)
-comes_to (reach.Broken position f) s span octets text is = (is, λ never. absurd cc)
+comes_to : (r : ShowingStage) (s : Showing) (span : Span) (octets text : List ℕ) → IsAtStage r s span octets text → ComesTo s span octets text (stopped_by r)
+comes_to stage.More s span octets text is = is
+comes_to stage.Last s span octets text is = (is, λ never. absurd cc)
+comes_to (stage.Broken position f) s span octets text is = (is, λ never. absurd cc)
 
 -- a piece whose text was put out
-pub goes_on : (s : Showing) (span : Span) (octets text begun put : List ℕ) (old new : Option (List ℕ)) (r : Reach) (known : Option Shown)
-    → GivesReach s span octets text begun put r → begun ≡ [] → Appends old new put → known ≡ stopped_by r → GoesOn s span octets text old new known
+pub goes_on : (s : Showing) (span : Span) (octets text begun put : List ℕ) (old new : Option (List ℕ)) (r : ShowingStage) (known : Option Shown)
+    → GivesStage s span octets text begun put r → begun ≡ [] → Appends old new put → known ≡ stopped_by r → GoesOn s span octets text old new known
 goes_on s span octets text begun put old new r known gives empty written is =
     subst (λ (k : Option Shown). GoesOn s span octets text old new k) (sym is)
     (gives.0, subst (Appends old new) (gives.1 ∙ ap (λ (l : List ℕ). l ++ gives.0) empty) written, comes_to r s span octets (text ++ gives.0) gives.2)

@@ -2,8 +2,8 @@
 use Rattle.std.specs.Prelude.{◌≡◌, ◌≢◌, ◌⊎◌, ◌++◌, ℕ, List, [], Option, None, Some}
 use Rattle.std.specs.Io.KnownBytes.{Appends, Consumes, IsAtEnd, Keeps}
 use Rattle.hc_transcript.specs.Names.{fault_number, fault_name}
-use Rattle.hc_shown.specs.declared.showing.Reach.{Reach}
-use Rattle.hc_shown.specs.declared.showing.Reach.TheVariants as reach
+use Rattle.hc_shown.specs.declared.showing.ShowingStage.{ShowingStage}
+use Rattle.hc_shown.specs.declared.showing.ShowingStage.TheVariants as stage
 use Rattle.hc_shown.specs.declared.showing.Showing.{Showing}
 use Rattle.hc_shown.specs.declared.span.Span.{Span}
 use Rattle.hc_shown.specs.Showings.{Shows, ShowsAll, ShowsBefore, ShowsFewer}
@@ -66,7 +66,7 @@ abbrev pub GoesOn : Showing → Span → List ℕ → List ℕ → Option (List 
 GoesOn s span octets text old new shown = (more : List ℕ) × Appends old new more × ComesTo s span octets (text ++ more) shown
 
 -- what was shown, where the records have come so far that no more are to
-abbrev pub stopped_by : Reach → Option Shown
-stopped_by reach.More = None
-stopped_by reach.Last = Some All
-stopped_by (reach.Broken position f) = Some (Broken position f)
+abbrev pub stopped_by : ShowingStage → Option Shown
+stopped_by stage.More = None
+stopped_by stage.Last = Some All
+stopped_by (stage.Broken position f) = Some (Broken position f)

@@ -22,7 +22,7 @@ pub enum BaselineTrouble {
 }
 
 impl BaselineTrouble {
-    /// Says it on `faults`, and answers the exit status. `name` is what the input is called where it fails.
+    /// Says it on `faults`, and returns the exit status. `name` is what the input is called where it fails.
     pub fn told<E: Write>(self, name: &str, faults: &mut E) -> u8
         ensures { result ≡ status_without self }
     {

@@ -11,7 +11,7 @@ use std::alloc::Global;
 use std::io;
 use std::io::{Read, Write};
 
-/// Converts the transcript that `input` gives up to its end to the first format, and answers the exit status.
+/// Converts the transcript that `input` gives up to its end to the first format, and returns the exit status.
 /// `name` is what the input is called where it fails.
 ///
 /// The converted transcript goes to `output`, and the status is 0. Of octets that are no transcript the line of
@@ -64,7 +64,7 @@ fn written<W: Write>(transcript: &[u8], output: &mut W) -> io::Result<()>
     output.flush()
 }
 
-// Writes the verdict's line on `faults`, and answers its status.
+// Writes the verdict's line on `faults`, and returns its status.
 fn said<E: Write>(alloc: Global, verdict: &Verdict, faults: &mut E) -> Result<u8, Trouble>
     ensures { IfOk result (λ status. SaysLine verdict.now status (E.contents faults.old) (E.contents faults.new)) }
 {

@@ -4,6 +4,7 @@ ghost use Rattle.hc_html.specs.Marked.{IsDocument};
 ghost use Rattle.hc_command.specs.Documents.{DocumentsBy, SaysDocument};
 
 use crate::surveying::{Outcome, Reading, surveyed};
+use crate::twice::Twice;
 use hc_arguments::AuditTerms;
 use hc_auditing::{Trouble, ended, printed, verdict_line};
 use hc_history::{Settings, Verdict};
@@ -28,43 +29,42 @@ impl<I: Index> Reading<I> for Retelling {
     }
 }
 
-/// Reports all wrong replies of the transcript that both readers give as a document in HTML, and answers the exit status, which
-/// is that of an audit. `name` is what the input is called.
+/// Reports all wrong replies of the transcript that both readers give as a document in HTML, and returns the
+/// exit status, which is that of an audit. `name` is what the input is called.
 ///
-/// The document goes to `output`. Where there is no verdict, by a read or a write that fails or by memory, the status is 3, and
-/// one line on `faults` says why.
+/// The document goes to `output`. Where there is no verdict, by a read or a write that fails or by memory,
+/// the status is 3, and one line on `faults` says why.
 pub fn report_in_html<R: Read, S: Read, W: Write, E: Write>(
     alloc: Global,
     terms: AuditTerms,
     name: &str,
-    input: &mut R,
-    again: &mut S,
+    twice: &mut Twice<R, S>,
     output: &mut W,
     faults: &mut E,
 ) -> u8
-    ensures { DocumentsBy terms.settings terms.minimums (R.remaining input.old) result
+    ensures { DocumentsBy terms.settings terms.minimums (R.remaining twice.old.first) result
         (W.contents output.old) (W.contents output.new) (E.contents faults.old) (E.contents faults.new) }
 {
     let AuditTerms { settings, minimums } = terms;
-    match documented(alloc, &settings, name, input, again, output) {
+    match documented(alloc, &settings, name, twice, output) {
         Ok(verdict) => ended(alloc, minimums, &verdict, faults),
         Err(trouble) => trouble.told(name, faults),
     }
 }
 
-// Writes the document, and answers the verdict.
+// Writes the document, and returns the verdict.
 fn documented<R: Read, S: Read, W: Write>(
     alloc: Global,
     settings: &Settings,
     name: &str,
-    input: &mut R,
-    again: &mut S,
+    twice: &mut Twice<R, S>,
     output: &mut W,
 ) -> Result<Verdict, Trouble>
-    ensures { IfOk result (λ verdict. SaysDocument settings.now verdict (R.remaining input.old) (W.contents output.old) (W.contents output.new)) }
+    ensures { IfOk result (λ verdict. SaysDocument settings.now verdict (R.remaining twice.old.first)
+        (W.contents output.old) (W.contents output.new)) }
 {
     let mut naming = NamingReport::new(alloc, settings.copy(alloc)?)?;
-    let outcome = surveyed(alloc, settings.copy(alloc)?, input, &mut naming)?;
+    let outcome = surveyed(alloc, settings.copy(alloc)?, &mut twice.first, &mut naming)?;
     let verdict = outcome.verdict(naming.first_wrong());
     let line = verdict_line(alloc, &verdict)?;
     let subject = Subject {
@@ -74,7 +74,7 @@ fn documented<R: Read, S: Read, W: Write>(
         ending: outcome.ending(),
         counts: outcome.counts(),
     };
-    let text = document_of(alloc, &subject, naming, again)?;
+    let text = document_of(alloc, &subject, naming, &mut twice.again)?;
     match printed(text.as_str(), output) {
         Ok(()) => Ok(verdict),
         Err(error) => Err(Trouble::Output(error)),

@@ -11,6 +11,7 @@ ghost use Rattle.hc_command.specs.Report.{BreaksIfSome, ExplainsAt, IsHeadLine, 
 use crate::objects::object;
 use crate::saying::said_first;
 use crate::surveying::{Outcome, Reading, surveyed};
+use crate::twice::Twice;
 use hc_arguments::ExplainTerms;
 use hc_auditing::{Trouble, printed, said, verdict_status};
 use hc_explain::{Explaining, Form, say_head};
@@ -51,8 +52,8 @@ impl<I: Index> Reading<I> for Explaining {
     }
 }
 
-/// Explains the reply at the position of the transcript that both readers give, or where no position is given the first
-/// wrong reply, and answers the exit status. `name` is what the input is called where it fails.
+/// Explains the reply at the position of the transcript that both readers give, or where no position is given
+/// the first wrong reply, and returns the exit status. `name` is what the input is called where it fails.
 ///
 /// The explanation goes to `output`. The status is that of the reply, 0 where it is right and 1 where it is wrong.
 /// Where no position is given and no reply is wrong, `output` gets the line of the verdict, and the status is that of
@@ -66,29 +67,29 @@ pub fn explain<R: Read, S: Read, W: Write, E: Write>(
     alloc: Global,
     terms: ExplainTerms,
     name: &str,
-    input: &mut R,
-    again: &mut S,
+    twice: &mut Twice<R, S>,
     output: &mut W,
     faults: &mut E,
 ) -> u8
     // Without a position the verdict on all octets that the input had comes first.
     ensures first { terms.position ≡ None
-        → ReportsFor terms.json terms.settings (R.remaining input.old) (S.remaining again.old) (S.remaining again.new) result (W.contents output.old) (W.contents output.new)
-        (E.contents faults.old) (E.contents faults.new) }
+        → ReportsFor terms.json terms.settings (R.remaining twice.old.first)
+        (S.remaining twice.old.again) (S.remaining twice.new.again) result
+        (W.contents output.old) (W.contents output.new) (E.contents faults.old) (E.contents faults.new) }
     // At a position what is found there of what was read of the input, or a break before it.
     ensures at { (place : ℕ) → terms.position ≡ Some place
-        → ExplainsAt terms.json terms.settings (R.remaining input.old) (R.remaining input.new)
-        (S.remaining again.old) (S.remaining again.new) place result
+        → ExplainsAt terms.json terms.settings (R.remaining twice.old.first) (R.remaining twice.new.first)
+        (S.remaining twice.old.again) (S.remaining twice.new.again) place result
         (W.contents output.old) (W.contents output.new) (E.contents faults.old) (E.contents faults.new) }
 {
-    match explained(alloc, terms, input, again, output) {
+    match explained(alloc, terms, twice, output) {
         Ok(Some(status)) => status,
         Ok(None) => no_reply(faults),
         Err(trouble) => trouble.told(name, faults),
     }
 }
 
-// Says that no reply stands at the position, and answers the exit status.
+// Says that no reply stands at the position, and returns the exit status.
 fn no_reply<E: Write>(faults: &mut E) -> u8
     ensures { result ≡ 64 }
 {
@@ -96,45 +97,48 @@ fn no_reply<E: Write>(faults: &mut E) -> u8
     NO_REPLY
 }
 
-// Explains the reply, and answers the exit status: none where no reply stands at the position.
+// Explains the reply, and returns the exit status: none where no reply stands at the position.
 fn explained<R: Read, S: Read, W: Write>(
     alloc: Global,
     terms: ExplainTerms,
-    input: &mut R,
-    again: &mut S,
+    twice: &mut Twice<R, S>,
     output: &mut W,
 ) -> Result<Option<u8>, Trouble>
     ensures first { terms.position ≡ None
-        → IfOk result (λ status. SaysIfSome terms.json terms.settings (R.remaining input.old) (S.remaining again.old) (S.remaining again.new) status (W.contents output.old) (W.contents output.new)) }
+        → IfOk result (λ status. SaysIfSome terms.json terms.settings (R.remaining twice.old.first)
+        (S.remaining twice.old.again) (S.remaining twice.new.again) status
+        (W.contents output.old) (W.contents output.new)) }
     ensures at { (place : ℕ) → terms.position ≡ Some place
-        → IfOk result (λ status. WritesIfSome terms.json terms.settings (R.remaining input.old) (R.remaining input.new)
-        (S.remaining again.old) (S.remaining again.new) place status
+        → IfOk result (λ status. WritesIfSome terms.json terms.settings
+        (R.remaining twice.old.first) (R.remaining twice.new.first)
+        (S.remaining twice.old.again) (S.remaining twice.new.again) place status
         (W.contents output.old) (W.contents output.new)) }
 {
     match terms.position {
-        None => Ok(Some(first_explained(alloc, terms, input, again, output)?)),
-        Some(position) => reply_explained(alloc, position, terms, input, again, output),
+        None => Ok(Some(first_explained(alloc, terms, twice, output)?)),
+        Some(position) => reply_explained(alloc, position, terms, twice, output),
     }
 }
 
-// Says the verdict, and explains the first wrong reply, if there is one. Answers the verdict's status.
+// Says the verdict, and explains the first wrong reply, if there is one. Returns the verdict's status.
 fn first_explained<R: Read, S: Read, W: Write>(
     alloc: Global,
     terms: ExplainTerms,
-    input: &mut R,
-    again: &mut S,
+    twice: &mut Twice<R, S>,
     output: &mut W,
 ) -> Result<u8, Trouble>
-    ensures { IfOk result (λ status. SaysReport terms.json terms.settings (R.remaining input.old) (S.remaining again.old) (S.remaining again.new) status (W.contents output.old) (W.contents output.new)) }
+    ensures { IfOk result (λ status. SaysReport terms.json terms.settings (R.remaining twice.old.first)
+        (S.remaining twice.old.again) (S.remaining twice.new.again) status
+        (W.contents output.old) (W.contents output.new)) }
 {
     let json = terms.json;
     let same = terms.settings.copy(alloc)?;
     let mut seeker = FirstWrong::new(alloc);
-    let outcome = surveyed(alloc, terms.settings, input, &mut seeker)?;
+    let outcome = surveyed(alloc, terms.settings, &mut twice.first, &mut seeker)?;
     let verdict = outcome.verdict(seeker.first_wrong());
     match seeker.into_found() {
         Some(found) => {
-            let told = told_again(alloc, same, found, json, again)?;
+            let told = told_again(alloc, same, found, json, &mut twice.again)?;
             verdict_said(alloc, json, &verdict, Some(told.as_str()), output)
         }
         None => verdict_said(alloc, json, &verdict, None, output),
@@ -148,7 +152,7 @@ fn form_of(json: bool) -> Form
     if json { Form::Json } else { Form::Text }
 }
 
-// Says the verdict and what is told of a reply, if something is, and answers the verdict's status.
+// Says the verdict and what is told of a reply, if something is, and returns the verdict's status.
 fn verdict_said<W: Write>(
     alloc: Global,
     json: bool,
@@ -176,23 +180,23 @@ fn told_behind<'a>(told: Option<&'a str>) -> &'a str
     }
 }
 
-// Explains the reply at that position, and answers its status: none where no reply stands there.
+// Explains the reply at that position, and returns its status: none where no reply stands there.
 fn reply_explained<R: Read, S: Read, W: Write>(
     alloc: Global,
     position: u64,
     terms: ExplainTerms,
-    input: &mut R,
-    again: &mut S,
+    twice: &mut Twice<R, S>,
     output: &mut W,
 ) -> Result<Option<u8>, Trouble>
-    ensures { IfOk result (λ status. WritesIfSome terms.json terms.settings (R.remaining input.old) (R.remaining input.new)
-        (S.remaining again.old) (S.remaining again.new) position status
+    ensures { IfOk result (λ status. WritesIfSome terms.json terms.settings
+        (R.remaining twice.old.first) (R.remaining twice.new.first)
+        (S.remaining twice.old.again) (S.remaining twice.new.again) position status
         (W.contents output.old) (W.contents output.new)) }
 {
     let json = terms.json;
     let same = terms.settings.copy(alloc)?;
     let mut seeker = ReplyAt::new(alloc, position);
-    let outcome = surveyed(alloc, terms.settings, input, &mut seeker)?;
+    let outcome = surveyed(alloc, terms.settings, &mut twice.first, &mut seeker)?;
     // It looks at that position still.
     if seeker.position() != position {
         return Err(Trouble::Device(io::Error::other("another position")));
@@ -202,11 +206,11 @@ fn reply_explained<R: Read, S: Read, W: Write>(
     };
     let head = head_line(alloc, &found)?;
     let status = status_of(found.finding);
-    let told = told_again(alloc, same, found, json, again)?;
+    let told = told_again(alloc, same, found, json, &mut twice.again)?;
     Ok(Some(reply_said(alloc, json, head, status, told.as_str(), output)?))
 }
 
-// Says what is told of the reply, in text after the line that heads it, and answers that status.
+// Says what is told of the reply, in text after the line that heads it, and returns that status.
 fn reply_said<W: Write>(
     alloc: Global,
     json: bool,
@@ -226,7 +230,7 @@ fn reply_said<W: Write>(
     written_as(text.as_str(), status, output)
 }
 
-// Writes the text, and answers that status.
+// Writes the text, and returns that status.
 fn written_as<W: Write>(text: &str, status: u8, output: &mut W) -> Result<u8, Trouble>
     ensures { IfOk result (λ told. (told ≡ status) × Appends (W.contents output.old) (W.contents output.new) text.now) }
 {
@@ -309,7 +313,7 @@ fn not_found<W: Write>(
     Ok(Some(break_said(alloc, json, &Verdict::Malformed(at, fault), output)?))
 }
 
-// Says that verdict alone, and answers its status.
+// Says that verdict alone, and returns its status.
 fn break_said<W: Write>(
     alloc: Global,
     json: bool,

@@ -23,3 +23,4 @@ pub use replaying::replay;
 pub use reporting::{Beside, ReportEnd, ReportForm, report};
 pub use run::{answered, status};
 pub use showing::show;
+pub use twice::Twice;

@@ -14,7 +14,7 @@ use std::io::{Read, Write};
 /// The exit status of a script that can't be played.
 const REFUSED: u8 = 2;
 
-/// Replays the script that `input` gives up to its end, and answers the exit status. `name` is what the
+/// Replays the script that `input` gives up to its end, and returns the exit status. `name` is what the
 /// input is called where it fails.
 ///
 /// The transcript goes to `output`, and the line of the verdict on it to `faults`. Of a script that can't be
@@ -53,7 +53,7 @@ fn played<W: Write, E: Write>(alloc: Global, script: &[u8], output: &mut W, faul
     }
 }
 
-// Writes the transcript on `output` and the verdict's line on `faults`, and answers its status.
+// Writes the transcript on `output` and the verdict's line on `faults`, and returns its status.
 fn said<W: Write, E: Write>(
     alloc: Global,
     transcript: &[u8],
@@ -85,7 +85,7 @@ fn written<W: Write, E: Write>(
     printed(line, faults)
 }
 
-// Says why there is no transcript, and answers the exit status.
+// Says why there is no transcript, and returns the exit status.
 fn refused<E: Write>(fault: ScriptFault, faults: &mut E) -> u8
     ensures { result ≡ refusal_status fault }
 {
@@ -98,7 +98,7 @@ fn refused<E: Write>(fault: ScriptFault, faults: &mut E) -> u8
     }
 }
 
-// Says by which fault the script can't be played, and answers the exit status.
+// Says by which fault the script can't be played, and returns the exit status.
 fn blamed<E: Write>(fault: ScriptFault, faults: &mut E) -> u8
     ensures { result ≡ 2 }
 {

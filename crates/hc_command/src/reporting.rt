@@ -94,6 +94,11 @@ impl<'a> Beside<'a> {
             annotations: String::new(alloc),
         }
     }
+
+    // The allocator of what is told.
+    fn alloc(&self) -> Global {
+        *self.junit.allocator()
+    }
 }
 
 /// By which verdict a report ends.
@@ -108,18 +113,18 @@ pub struct ReportEnd {
 // The exit status where a baseline has wrong replies that aren't there any more.
 const FEWER_WRONG: u8 = 5;
 
-/// Reports all wrong replies of the transcript that `input` gives up to its end, or up to where a record breaks it,
-/// and answers the exit status: that of an audit, but for wrong replies that a baseline has.
+/// Reports all wrong replies of the transcript that `input` gives up to its end, or up to where a record
+/// breaks it, and returns the exit status: that of an audit, but for wrong replies that a baseline has.
 ///
-/// The report goes to `output`: the line of the verdict, as an audit says it, and behind it text for people; or in
-/// its place one JSON object; and behind it the annotations that are asked for. Where a baseline has all wrong replies, the status is that of a transcript without them.
-/// What an audit says on `faults` where too few replies were judged, this says too. Where the status would be 0, and it is
-/// asked whether the baseline has more, it is 5 if that has, and a line on `faults` says how many. A baseline that was made
-/// by other settings is refused before anything is read: a line on `faults` names one of them, and the status is 64. Where
-/// there is no verdict, by a read or a write that fails or by memory, the status is 3, and one line on `faults` says why; a
-/// write of that line that fails is passed over.
+/// The report goes to `output`: the line of the verdict, as an audit says it, and behind it text for people;
+/// or in its place one JSON object; and behind it the annotations that are asked for. Where a baseline has
+/// all wrong replies, the status is that of a transcript without them. What an audit says on `faults` where
+/// too few replies were judged, this says too. Where the status would be 0, and it is asked whether the
+/// baseline has more, it is 5 if that has, and a line on `faults` says how many. A baseline that was made by
+/// other settings is refused before anything is read: a line on `faults` names one of them, and the status is
+/// 64. Where there is no verdict, by a read or a write that fails or by memory, the status is 3, and one line
+/// on `faults` says why; a write of that line that fails is passed over.
 pub fn report<R: Read, W: Write, E: Write>(
-    alloc: Global,
     terms: AuditTerms,
     form: ReportForm,
     beside: &mut Beside<'_>,
@@ -127,9 +132,11 @@ pub fn report<R: Read, W: Write, E: Write>(
     output: &mut W,
     faults: &mut E,
 ) -> u8
-    ensures { ReportsBy form.json form.baseline form.strict form.annotates terms.settings terms.minimums (R.remaining input.old) (R.remaining input.new) result
+    ensures { ReportsBy form.json form.baseline form.strict form.annotates terms.settings terms.minimums
+        (R.remaining input.old) (R.remaining input.new) result
         (W.contents output.old) (W.contents output.new) (E.contents faults.old) (E.contents faults.new) }
 {
+    let alloc = beside.alloc();
     let AuditTerms { settings, minimums } = terms;
     if let Some(status) = other_settings(alloc, &settings, &form, faults) {
         return status;
@@ -140,7 +147,7 @@ pub fn report<R: Read, W: Write, E: Write>(
     }
 }
 
-// Where the baseline was made by other settings, says so and answers the exit status.
+// Where the baseline was made by other settings, says so and returns the exit status.
 fn other_settings<E: Write>(
     alloc: Global,
     settings: &Settings,
@@ -177,8 +184,8 @@ fn other_settings_of<E: Write>(
     }
 }
 
-// Ends by the verdict. Where that gives 0, and the baseline has wrong replies that aren't there any more, says so if it is
-// asked for, and answers 5.
+// Ends by the verdict. Where that gives 0, and the baseline has wrong replies that aren't there any more,
+// says so if it is asked for, and returns 5.
 fn ended_strictly<E: Write>(
     alloc: Global,
     strict: bool,
@@ -222,7 +229,7 @@ fn gone_line(alloc: Global, gone: u64) -> Result<String, AllocError>
     format!(in alloc; "fewer wrong: gone={gone}\n")
 }
 
-// Reports what `input` gives, and annotates it if that is asked for. How the report ends is the answer.
+// Reports what `input` gives, and annotates it if that is asked for. Returns how the report ends.
 fn reported_whole<R: Read, W: Write>(
     alloc: Global,
     settings: &Settings,
@@ -252,7 +259,7 @@ fn annotated<W: Write>(annotates: bool, beside: &Beside<'_>, output: &mut W) -> 
     }
 }
 
-// Reports what `input` gives. How the report ends is the answer.
+// Reports what `input` gives. Returns how the report ends.
 fn reported<R: Read, W: Write>(
     alloc: Global,
     settings: &Settings,
@@ -388,7 +395,7 @@ fn held_against(
     }
 }
 
-// Writes the report, as a JSON object or as text, and answers the verdict's status.
+// Writes the report, as a JSON object or as text, and returns the verdict's status.
 fn said_in<W: Write>(
     alloc: Global,
     settings: &Settings,
@@ -408,7 +415,7 @@ fn said_in<W: Write>(
     }
 }
 
-// Writes the report as a JSON object, and answers the verdict's status.
+// Writes the report as a JSON object, and returns the verdict's status.
 fn said_in_json<W: Write>(
     settings: &Settings,
     report: CountingReport,
@@ -428,7 +435,7 @@ fn said_in_json<W: Write>(
     }
 }
 
-// Writes the verdict's line and behind it the report, and answers the verdict's status.
+// Writes the verdict's line and behind it the report, and returns the verdict's status.
 fn said_in_text<W: Write>(
     alloc: Global,
     report: &CountingReport,

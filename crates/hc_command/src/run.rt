@@ -193,7 +193,7 @@ fn has_other_form(form: ReportTerms<'_>) -> bool {
 // Reports in HTML on the file, which was opened twice.
 fn document_twice<F: Read + Drop, W: Write, E: Write>(
     alloc: Global,
-    twice: Twice<F>,
+    mut twice: Twice<F, F>,
     name: &str,
     terms: AuditTerms,
     output: &mut W,
@@ -202,11 +202,7 @@ fn document_twice<F: Read + Drop, W: Write, E: Write>(
     ensures { Documented terms result (W.contents output.old) (W.contents output.new)
         (E.contents faults.old) (E.contents faults.new) }
 {
-    let Twice {
-        mut first,
-        mut again,
-    } = twice;
-    report_in_html(alloc, terms, name, &mut first, &mut again, output, faults)
+    report_in_html(alloc, terms, name, &mut twice, output, faults)
 }
 
 // Reports on the file in text or JSON, if the baseline that is named is there.
@@ -337,14 +333,15 @@ where
             let name = input_name(files.input);
             let mut beside = Beside::new(rt.alloc(), name, files.junit.is_some());
             let input = &mut input;
-            let status = report(rt.alloc(), terms, form, &mut beside, input, output, faults);
+            let status = report(terms, form, &mut beside, input, output, faults);
             kept(rt, files.junit, beside.junit.as_str(), status, faults)
         }
         Err(error) => Trouble::Device(error).told(files.input, faults),
     }
 }
 
-// Writes the XML to the file of that name, if there are both, and answers the status that the program had come to.
+// Writes the XML to the file of that name, if there are both, and returns the status that the program had
+// come to.
 fn kept<R: Files, E: Write>(rt: &R, name: Option<&str>, xml: &str, status: u8, faults: &mut E) -> u8
     ensures { (result ≡ 3) ⊎ ((result ≡ status) × (E.contents faults.new ≡ E.contents faults.old)) }
 {
@@ -387,7 +384,7 @@ where
 // Explains a reply of the file, which was opened twice.
 fn explained_twice<F: Read + Drop, W: Write, E: Write>(
     alloc: Global,
-    twice: Twice<F>,
+    mut twice: Twice<F, F>,
     name: &str,
     terms: ExplainTerms,
     output: &mut W,
@@ -396,11 +393,7 @@ fn explained_twice<F: Read + Drop, W: Write, E: Write>(
     ensures { ExplainedTwice terms.json terms.position result (W.contents output.old) (W.contents output.new)
         (E.contents faults.old) (E.contents faults.new) }
 {
-    let Twice {
-        mut first,
-        mut again,
-    } = twice;
-    explain(alloc, terms, name, &mut first, &mut again, output, faults)
+    explain(alloc, terms, name, &mut twice, output, faults)
 }
 
 // Shows records of the file, or of standard input for `-`.

@@ -9,7 +9,7 @@ use std::alloc::Global;
 use std::io;
 use std::io::Write;
 
-/// Writes the verdict's line, and behind it more, and answers the verdict's status.
+/// Writes the verdict's line, and behind it more, and returns the verdict's status.
 pub(crate) fn said_first<W: Write>(
     alloc: Global,
     verdict: &Verdict,

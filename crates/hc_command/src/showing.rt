@@ -8,7 +8,7 @@ ghost use Rattle.hc_command.specs.ShowLaws.{showing_goes_on, showing_stays};
 
 use hc_auditing::{Fed, Trouble, buffer, printed, pull, verdict_line};
 use hc_history::Verdict;
-use hc_shown::{Ending, Reach, Showing, Span};
+use hc_shown::{EarlyEnding, Showing, ShowingStage, Span};
 use hc_transcript::RecordFault;
 use std::alloc::Global;
 use std::io::{Read, Write};
@@ -27,8 +27,8 @@ pub(crate) enum Shown {
     Broken(u64, RecordFault),
 }
 
-/// Shows the records of the transcript that `input` gives at these positions, and answers the exit status. `name` is what
-/// the input is called where it fails. Behind the last position nothing is read.
+/// Shows the records of the transcript that `input` gives at these positions, and returns the exit status.
+/// `name` is what the input is called where it fails. Behind the last position nothing is read.
 ///
 /// The text goes to `output`, and the status is 0. Where a record at one of the positions or before them breaks the
 /// transcript, `output` gets the line that says so behind the records that were shown, and the status is 2; where the last
@@ -52,7 +52,7 @@ pub fn show<R: Read, W: Write, E: Write>(
     }
 }
 
-// Answers the exit status, and says where the last position is past the end.
+// Returns the exit status, and says where the last position is past the end.
 fn ended<E: Write>(shown: Shown, faults: &mut E) -> u8
     ensures status { result ≡ shown_status shown }
     ensures says { SaysOfShown shown (E.contents faults.old) (E.contents faults.new) }
@@ -96,8 +96,8 @@ fn shown_by(showing: Showing, stopped: Option<Shown>) -> Shown
     match stopped {
         Some(shown) => shown,
         None => match showing.finish() {
-            Ending::Short => Shown::Fewer,
-            Ending::Broken(position, fault) => Shown::Broken(position, fault),
+            EarlyEnding::Short => Shown::Fewer,
+            EarlyEnding::Broken(position, fault) => Shown::Broken(position, fault),
         },
     }
 }
@@ -146,12 +146,12 @@ impl<W: Write> Fed<W> for Putting {
 }
 
 // What was shown, where the records have come so far that no more are to.
-fn stopped_by(reach: Reach) -> Option<Shown>
+fn stopped_by(reach: ShowingStage) -> Option<Shown>
     ensures { result ≡ stopped_by reach }
 {
     match reach {
-        Reach::More => None,
-        Reach::Last => Some(Shown::All),
-        Reach::Broken(position, fault) => Some(Shown::Broken(position, fault)),
+        ShowingStage::More => None,
+        ShowingStage::Last => Some(Shown::All),
+        ShowingStage::Broken(position, fault) => Some(Shown::Broken(position, fault)),
     }
 }

@@ -171,7 +171,7 @@ impl<I: Index + Drop, T: Reading<I>> Fed<T> for Surveying<I> {
     }
 }
 
-// Feeds the survey a piece, and answers whether it needs no more.
+// Feeds the survey a piece, and returns whether it needs no more.
 fn feed<I: Index + Drop, T: Reading<I>>(
     survey: &mut Survey<I>,
     piece: &[u8],

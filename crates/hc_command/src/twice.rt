@@ -1,4 +1,4 @@
-//! Files that are read twice.
+//! Inputs that are read twice.
 
 ghost use Rattle.std.specs.Prelude.{◌≡◌, ◌⊎◌};
 
@@ -7,13 +7,13 @@ use std::io::Write;
 use std::rt::Files;
 use std::{fs, io};
 
-/// A file that was opened twice.
+/// Two readers of one input, which is read twice.
 #[derive(Drop)]
-pub(crate) struct Twice<F> {
+pub struct Twice<R, S> {
     /// It is read from its front.
-    pub(crate) first: F,
+    pub first: R,
     /// And again.
-    pub(crate) again: F,
+    pub again: S,
 }
 
 /// Why a file isn't read twice.
@@ -55,7 +55,10 @@ fn not_twice<E: Write>(faults: &mut E) -> u8
 }
 
 /// Opens the file of that name twice; standard input, which is `-`, isn't.
-pub(crate) fn opened_twice<R: Files>(rt: &R, name: &str) -> Result<Twice<R::File>, NotTwice> {
+pub(crate) fn opened_twice<R: Files>(
+    rt: &R,
+    name: &str,
+) -> Result<Twice<R::File, R::File>, NotTwice> {
     if name == "-" || !reads_twice(rt, name)? {
         return Err(NotTwice::Stream);
     }

@@ -1,4 +1,4 @@
-//! What each step answers.
+//! What each step returns.
 
 use hc_cases::{Unanswered, show};
 use hc_core::{StepResult, run};
@@ -8,7 +8,7 @@ use hc_service::Action;
 use std::alloc::{AllocError, Global};
 use std::fmt::Write;
 
-/// Writes what each step of the script's run answers: its actions, or its fault.
+/// Writes what each step of the script's run returns: its actions, or its fault.
 pub fn say_steps(alloc: Global, script: &[u8], out: &mut String) -> Result<(), Unanswered> {
     let Ok(script) = read_script(alloc, script) else {
         return Err(Unanswered::Unknown);

@@ -1,5 +1,6 @@
 //! Devices in memory: one gives octets in pieces, another takes none.
 
+use hc_command::Twice;
 use std::io;
 use std::io::{ErrorKind, Read, Write};
 
@@ -46,9 +47,12 @@ impl<'a> Pieces<'a> {
         }
     }
 
-    /// The same pieces once more, of which nothing is read yet.
-    pub(crate) fn again(&self) -> Self {
-        Pieces::new(self.pieces)
+    /// These, and the same pieces once more, of which nothing is read yet.
+    pub(crate) fn twice(self) -> Twice<Self, Self> {
+        Twice {
+            first: self,
+            again: Pieces::new(self.pieces),
+        }
     }
 
     // Reads on in the pieces.

@@ -3,7 +3,7 @@
 use crate::commands_words::asks_for_audit;
 use crate::devices::Pieces;
 use crate::written::Written;
-use hc_arguments::{AuditTerms, Order, ReportTerms, parsed};
+use hc_arguments::{Order, ReportTerms, parsed};
 use hc_auditing::{audit, printed, shown};
 use hc_cases::Unanswered;
 use hc_command::{
@@ -11,7 +11,7 @@ use hc_command::{
     report_in_html,
 };
 use hc_figures::Baseline;
-use hc_options::audit_asked;
+use hc_options::{AuditOrder, audit_asked};
 use std::alloc::Global;
 use std::io::Write;
 
@@ -47,8 +47,8 @@ fn written_alone(alloc: Global, words: &[&str], pieces: &[&[u8]]) -> Written {
     written
 }
 
-/// Does what the words ask, which is to audit, to report, to explain, to replay or to convert, and answers the exit
-/// status.
+/// Does what the words ask, which is to audit, to report, to explain, to replay or to convert, and returns
+/// the exit status.
 pub(crate) fn status_of<W: Write, E: Write>(
     alloc: Global,
     words: &[&str],
@@ -62,7 +62,7 @@ pub(crate) fn status_of<W: Write, E: Write>(
     }
 }
 
-// Does what is asked, and answers the exit status.
+// Does what is asked, and returns the exit status.
 fn done<W: Write, E: Write>(
     alloc: Global,
     order: Order<'_>,
@@ -72,12 +72,15 @@ fn done<W: Write, E: Write>(
 ) -> Result<u8, Unanswered> {
     match order {
         Order::Audit { file, terms } => Ok(audit(alloc, terms, file, input, output, faults)),
-        Order::Report { file, terms, form } => reported(
-            alloc, file, terms, form, input, output, faults,
-        ),
+        Order::Report { file, terms, form } => {
+            let order = AuditOrder { file, terms };
+            reported(alloc, order, form, input, output, faults)
+        }
         Order::Explain { file, terms } => {
-            let mut again = input.again();
-            Ok(explain(alloc, terms, file, input, &mut again, output, faults))
+            let mut twice = input.twice();
+            let status = explain(alloc, terms, file, &mut twice, output, faults);
+            *input = twice.first;
+            Ok(status)
         }
         Order::Replay { file } => Ok(replay(alloc, file, input, output, faults)),
         Order::Convert { file } => Ok(convert(alloc, file, input, output, faults)),
@@ -85,19 +88,21 @@ fn done<W: Write, E: Write>(
     }
 }
 
-// Reports in that form, and answers the exit status.
+// Reports in that form, and returns the exit status.
 fn reported<W: Write, E: Write>(
     alloc: Global,
-    file: &str,
-    terms: AuditTerms,
+    order: AuditOrder<'_>,
     form: ReportTerms<'_>,
     input: &mut Pieces<'_>,
     output: &mut W,
     faults: &mut E,
 ) -> Result<u8, Unanswered> {
+    let AuditOrder { file, terms } = order;
     if form.html {
-        let mut again = input.again();
-        return Ok(report_in_html(alloc, terms, file, input, &mut again, output, faults));
+        let mut twice = input.twice();
+        let status = report_in_html(alloc, terms, file, &mut twice, output, faults);
+        *input = twice.first;
+        return Ok(status);
     }
     match known(alloc, form.baseline) {
         Ok(baseline) => {
@@ -108,7 +113,7 @@ fn reported<W: Write, E: Write>(
                 strict: form.strict,
                 annotates: form.annotates,
             };
-            let status = report(alloc, terms, form, &mut beside, input, output, faults);
+            let status = report(terms, form, &mut beside, input, output, faults);
             put_junit(beside.junit.as_str(), output)?;
             Ok(status)
         }

@@ -5,6 +5,7 @@ use crate::verdicts_tellers::Teller;
 use hc_cases::Unanswered;
 use hc_fields::number;
 use std::alloc::{AllocError, Global};
+use std::ops::Range;
 
 /// Writes what is told of the octets where the first that are the old ones are the new ones: the parts
 /// are the old and the new.
@@ -81,24 +82,24 @@ pub fn say_changed(
     };
     let other = other.first().copied().ok_or(Unanswered::Unknown)?;
     let at = number_of(at.as_slice())?;
-    say_piece_changed(alloc, teller, octets, other, at, piece.as_slice(), out)
+    let end = at.saturating_add(piece.len());
+    if octets.get(at..end) != Some(piece.as_slice()) {
+        return Err(Unanswered::Unknown);
+    }
+    say_each_changed(alloc, teller, octets, other, at..end, out)
 }
 
-fn say_piece_changed(
+// Writes what is told of the octets with another at a place, for each of those places.
+fn say_each_changed(
     alloc: Global,
     teller: &Teller<'_>,
     octets: &[u8],
     other: u8,
-    at: usize,
-    piece: &[u8],
+    places: Range<usize>,
     out: &mut String,
 ) -> Result<(), Unanswered> {
-    let end = at.saturating_add(piece.len());
-    if octets.get(at..end) != Some(piece) {
-        return Err(Unanswered::Unknown);
-    }
     let mut runs = Runs::new(out);
-    for place in at..end {
+    for place in places {
         let changed = with_octet(alloc, octets, place, other)?;
         runs.tell(alloc, teller, place, &[changed.as_slice()])?;
     }

@@ -46,7 +46,7 @@ fn say_piece(
     Ok(())
 }
 
-// Writes the next record, and answers whether there was one.
+// Writes the next record, and returns whether there was one.
 fn say_next(
     alloc: Global,
     reader: &mut RecordReader,

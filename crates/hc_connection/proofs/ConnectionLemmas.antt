@@ -1,17 +1,17 @@
 -- What a connection tells, once octets were sent.
 use Rattle.std.proofs.Common.{◌≡◌, ℕ, ◌∷◌, Bool, List, Result, Ok, Err, refl, subst, sym}
 use Rattle.std.specs.declared.alloc.AllocError.{AllocError}
-use Rattle.hc_events.specs.declared.Happening.{Happening}
+use Rattle.hc_service.specs.declared.event.Happening.{Happening}
 use Rattle.hc_order.specs.declared.occurrence.Occurrence.{Occurrence}
 use Rattle.hc_order.specs.declared.occurrence.Reason.{Reason}
 use Rattle.hc_order.specs.declared.receiver.Receiver.{Receiver}
 use Rattle.hc_connection.specs.Forwards.{AreInOrder, IsNext}
 use Rattle.hc_connection.specs.Moves.{AreMoments}
-use Rattle.hc_link_traits.specs.Telling.{occurs}
+use Rattle.hc_links.specs.Telling.{occurs}
 use Rattle.hc_order.specs.Log.{Move}
 use Rattle.hc_order.specs.Log.Move.{Heard, Sent}
 use Rattle.hc_connection.specs.Sides.{Opens}
-use Rattle.hc_link_traits.specs.Telling.{TellsSent}
+use Rattle.hc_links.specs.Telling.{TellsSent}
 use Rattle.hc_connection.proofs.TellLemmas.{opens_by}
 
 pub all_sent : (tells keeps : List Move → Type 0) (may_tell : ℕ → Type 0) (opened : Bool) (c d : ℕ) (result : Result Unit AllocError) (to : Receiver) (octets : List ℕ) (log : List Move)

@@ -8,15 +8,15 @@ use Rattle.std.specs.Cmp.{unsigned_tied}
 use Rattle.std.specs.Map.{lookup}
 use Rattle.std.specs.Ordering.{eq_by_cmp, nat_cmp}
 use Rattle.std.specs.declared.alloc.AllocError.{AllocError}
-use Rattle.hc_events.specs.declared.Happening.{Happening}
-use Rattle.hc_events.specs.declared.Happening.TheVariants.{ClientOpened, ClientBytes, ClientEnd, OriginBytes, OriginEnd, OriginFailed, Stopping}
-use Rattle.hc_link_traits.specs.declared.happened.Happened.{Happened}
-use Rattle.hc_link_traits.specs.declared.reading.Came.{Came}
-use Rattle.hc_link_traits.specs.declared.reading.Came.TheVariants.{Octets, End, Failure}
+use Rattle.hc_service.specs.declared.event.Happening.{Happening}
+use Rattle.hc_service.specs.declared.event.Happening.TheVariants.{ClientOpened, ClientBytes, ClientEnd, OriginBytes, OriginEnd, OriginFailed, Stopping}
+use Rattle.hc_links.specs.declared.happened.Happened.{Happened}
+use Rattle.hc_links.specs.declared.reading.Came.{Came}
+use Rattle.hc_links.specs.declared.reading.Came.TheVariants.{Octets, End, Failure}
 use Rattle.hc_connection.specs.Forwards.{AreKept, IsKept, IsLeastOpen, IsOfClient, KeepsCame, KeepsHappening, KeepsIfOk, KeepsPerhaps, KeepsSlot, NoneOpen, is_open_in, read_on, sent_on}
 use Rattle.hc_order.specs.declared.occurrence.Reason.{Reason}
 use Rattle.hc_order.specs.Log.{Move}
-use Rattle.hc_link_traits.specs.Telling.{TellsPerhaps}
+use Rattle.hc_links.specs.Telling.{TellsPerhaps}
 
 module _ {L : Type 0} (has_given has_got : L → List ℕ → Type 0) where
   -- ---- what is kept is open, and what is open is kept

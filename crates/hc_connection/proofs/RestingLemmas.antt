@@ -4,8 +4,8 @@ use Rattle.std.specs.BTreeMap.{BTreeMap}
 use Rattle.std.proofs.lemmas.Bool.{eqb-true}
 use Rattle.std.proofs.lemmas.Bool.Decides.{nat_tests}
 use Rattle.hc_transcript.specs.declared.record.Record.{Record}
-use Rattle.hc_events.specs.declared.Happening.{Happening}
-use Rattle.hc_events.specs.declared.Happening.TheVariants.{ClientOpened, ClientBytes, ClientEnd, OriginBytes, OriginEnd, OriginFailed, Stopping}
+use Rattle.hc_service.specs.declared.event.Happening.{Happening}
+use Rattle.hc_service.specs.declared.event.Happening.TheVariants.{ClientOpened, ClientBytes, ClientEnd, OriginBytes, OriginEnd, OriginFailed, Stopping}
 use Rattle.hc_service.specs.declared.action.Action.{Action}
 use Rattle.hc_service.specs.declared.action.Action.TheVariants as action
 use Rattle.hc_service.specs.declared.settings.CoreSettings.{CoreSettings}
@@ -28,7 +28,7 @@ use Rattle.hc_connection.specs.Connections.{HasPassed}
 use Rattle.hc_connection.specs.Sides.{IsUntouched, Opens, Rests}
 use Rattle.hc_connection.proofs.ForwardLemmas.{none_is}
 use Rattle.hc_connection.specs.Moves.{AreOf, IsOf, earlier_or, first_in, is_closed_in, is_ended_in}
-use Rattle.hc_link_traits.specs.Telling.{occurs}
+use Rattle.hc_links.specs.Telling.{occurs}
 
 -- ---- the log tells of forwards and of ends as the events do
 

@@ -1,18 +1,18 @@
 -- What the client's side of a connection tells, behind one move more.
 use Rattle.std.proofs.Common.{◌≡◌, ℕ, ◌+◌, ◌<◌, ◌==◌, Bool, true, false, Option, Some, List, [], ◌∷◌, ◌++◌, ◌≤◌, length, if◌then◌else◌, min, sym, ap, ◌∙◌, subst, arith, append_assoc, append-nil, refl}
 use Rattle.std.proofs.lemmas.Bool.Decides.{nat_tests}
-use Rattle.hc_events.specs.declared.Happening.{Happening}
-use Rattle.hc_events.specs.declared.Happening.TheVariants.{ClientBytes, ClientEnd, ClientOpened}
+use Rattle.hc_service.specs.declared.event.Happening.{Happening}
+use Rattle.hc_service.specs.declared.event.Happening.TheVariants.{ClientBytes, ClientEnd, ClientOpened}
 use Rattle.hc_connection.specs.declared.client_side.ClientSide.{ClientSide}
 use Rattle.hc_order.specs.declared.occurrence.Occurrence.{Occurrence}
 use Rattle.hc_order.specs.declared.occurrence.Reason.{Reason}
 use Rattle.hc_order.specs.declared.occurrence.Reason.TheVariants.{Peer, Replies, Reads}
 use Rattle.hc_order.specs.declared.receiver.Receiver.{Receiver}
 use Rattle.hc_order.specs.declared.receiver.Receiver.TheVariants.{Client}
-use Rattle.hc_link_traits.specs.Links.{CountsFailure, IsBeginning}
+use Rattle.hc_links.specs.Links.{CountsFailure, IsBeginning}
 use Rattle.hc_connection.specs.Moves.{AreRead, HappensFor, IsOf, earlier_or, failures_before, first_in, given_by, given_in, is_end_of, is_ended_in, is_of_client, is_of_reads, is_spent_in, most_reads, most_replies, octets_of, one_for, one_of_client, one_of_origin, replies_in, sent_by, sent_in}
-use Rattle.hc_link_traits.specs.Links.{most_octets}
-use Rattle.hc_link_traits.specs.Telling.{occurs}
+use Rattle.hc_links.specs.Links.{most_octets}
+use Rattle.hc_links.specs.Telling.{occurs}
 use Rattle.hc_order.specs.Log.{Move}
 use Rattle.hc_order.specs.Log.Move.{Heard, Sent}
 use Rattle.hc_service.specs.Numbers.{is_later}

@@ -3,14 +3,14 @@ use Rattle.std.specs.Prelude.{◌≡◌, ℕ, ◌≤◌, ◌==◌, Bool, true, f
 use Rattle.std.specs.declared.alloc.AllocError.{AllocError}
 use Rattle.std.specs.BTreeMap.{BTreeMap, get}
 use Rattle.std.specs.Ordering.{nat_cmp}
-use Rattle.hc_events.specs.declared.Happening.{Happening}
-use Rattle.hc_events.specs.declared.Happening.TheVariants.{ClientOpened, ClientBytes, ClientEnd, OriginBytes, OriginEnd, OriginFailed, Stopping}
-use Rattle.hc_link_traits.specs.declared.reading.Came.{Came}
-use Rattle.hc_link_traits.specs.declared.reading.Came.TheVariants.{Octets, End, Failure}
-use Rattle.hc_link_traits.specs.declared.happened.Happened.{Happened}
+use Rattle.hc_service.specs.declared.event.Happening.{Happening}
+use Rattle.hc_service.specs.declared.event.Happening.TheVariants.{ClientOpened, ClientBytes, ClientEnd, OriginBytes, OriginEnd, OriginFailed, Stopping}
+use Rattle.hc_links.specs.declared.reading.Came.{Came}
+use Rattle.hc_links.specs.declared.reading.Came.TheVariants.{Octets, End, Failure}
+use Rattle.hc_links.specs.declared.happened.Happened.{Happened}
 use Rattle.hc_connection.specs.Moves.{first_in}
-use Rattle.hc_link_traits.specs.Links.{most_octets}
-use Rattle.hc_link_traits.specs.Telling.{occurs}
+use Rattle.hc_links.specs.Links.{most_octets}
+use Rattle.hc_links.specs.Telling.{occurs}
 use Rattle.hc_order.specs.declared.occurrence.Reason.TheVariants.{Peer}
 use Rattle.hc_order.specs.Log.{Move}
 use Rattle.hc_order.specs.Mirrors.{is_on}

@@ -1,7 +1,7 @@
 -- What passes at the links of a connection. The newest move comes first.
 use Rattle.std.specs.Prelude.{◌≡◌, ℕ, ◌+◌, ◌<◌, ◌≤◌, ◌==◌, ◌||◌, Bool, true, false, List, [], ◌∷◌, ◌++◌, length, Option, Some, None, if◌then◌else◌}
-use Rattle.hc_events.specs.declared.Happening.{Happening}
-use Rattle.hc_events.specs.declared.Happening.TheVariants.{ClientOpened, ClientBytes, ClientEnd, OriginBytes, OriginEnd, OriginFailed, Stopping}
+use Rattle.hc_service.specs.declared.event.Happening.{Happening}
+use Rattle.hc_service.specs.declared.event.Happening.TheVariants.{ClientOpened, ClientBytes, ClientEnd, OriginBytes, OriginEnd, OriginFailed, Stopping}
 use Rattle.hc_order.specs.declared.occurrence.Reason.{Reason}
 use Rattle.hc_order.specs.declared.occurrence.Reason.TheVariants.{Peer, Replies, Reads, Stop, Late, Reset, Held, Displaced, Abandoned}
 use Rattle.hc_order.specs.declared.receiver.Receiver.{Receiver}
@@ -9,7 +9,7 @@ use Rattle.hc_order.specs.declared.receiver.Receiver.TheVariants.{Client, Origin
 use Rattle.hc_order.specs.Log.{Move}
 use Rattle.hc_order.specs.Log.Move.{Before, Closed, Heard, Sent}
 use Rattle.hc_order.specs.Mirrors.{is_its}
-use Rattle.hc_link_traits.specs.Links.{most_octets}
+use Rattle.hc_links.specs.Links.{most_octets}
 
 -- ---- the client of a connection
 

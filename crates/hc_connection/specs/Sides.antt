@@ -1,11 +1,11 @@
 -- What the client's side of a connection tells of what passed.
 use Rattle.std.specs.Prelude.{◌≡◌, ℕ, ◌+◌, ◌≤◌, Bool, true, false, List, Some, None, if◌then◌else◌, min}
-use Rattle.hc_events.specs.declared.Happening.TheVariants.{ClientOpened}
+use Rattle.hc_service.specs.declared.event.Happening.TheVariants.{ClientOpened}
 use Rattle.hc_connection.specs.declared.client_side.ClientSide.{ClientSide}
 use Rattle.hc_service.specs.Numbers.{is_later}
 use Rattle.hc_order.specs.declared.occurrence.Reason.{Reason}
 use Rattle.hc_order.specs.Mirrors.{last_opened}
-use Rattle.hc_link_traits.specs.Links.{CountsFailure, IsBeginning}
+use Rattle.hc_links.specs.Links.{CountsFailure, IsBeginning}
 use Rattle.hc_connection.specs.Moves.{AreOf, EndsFor, HaveReasons, ReadsFew, ReadsInTime, client_reads_in, failures_before, first_in, given_in, is_closed_in, is_ended_in, is_of_reads, is_spent_in, most_reads, origin_reads_in, reads_before, replies_in, sent_in}
 use Rattle.hc_order.specs.Log.{Move}
 

@@ -2,10 +2,10 @@
 
 ghost use Rattle.std.specs.Prelude.{◌≡◌, ◌<◌, ◌≤◌, false, true, ℕ, List, [], ◌∷◌, Option, None, Ok, IfOk, IfSome};
 
-use hc_events::Happening;
 use hc_framing::MessageText;
-use hc_link_traits::{Came, Happened, Link, LinkFailure, read_some, send_text};
+use hc_links::{Came, Happened, Link, LinkFailure, read_some, send_text};
 use hc_order::Reason;
+use hc_service::Happening;
 use std::alloc::{AllocError, Global};
 
 /// So many replies, and the client is read no more.
@@ -34,13 +34,13 @@ pub(crate) struct ClientSide<C: Link> {
 
 impl<C: Link> ClientSide<C> {
     ghost use Rattle.hc_order.specs.declared.receiver.Receiver.TheVariants.{Client};
-    ghost use Rattle.hc_events.specs.declared.Happening.TheVariants.{ClientEnd};
+    ghost use Rattle.hc_service.specs.declared.event.Happening.TheVariants.{ClientEnd};
     ghost use Rattle.hc_connection.specs.Forwards.{IsOfClient};
     ghost use Rattle.hc_connection.specs.Moves.{most_reads, most_replies};
     ghost use Rattle.hc_order.specs.Log.{Move};
     ghost use Rattle.hc_order.specs.Log.Move.{Before, Closed, Sent};
     ghost use Rattle.hc_connection.specs.Sides.{MayEndFor, Tells, TellsSparing, is_heard_out};
-    ghost use Rattle.hc_link_traits.specs.Telling.{TellsIfOk, TellsPerhaps};
+    ghost use Rattle.hc_links.specs.Telling.{TellsIfOk, TellsPerhaps};
 
     /// That of a client who has just connected.
     pub(crate) fn new(number: u64, link: C) -> Self
@@ -229,8 +229,8 @@ impl<C: Link> ClientSide<C> {
         }
     }
 
-    /// Sends octets to the client, and answers whether the link failed at that. One that has failed before loses
-    /// them.
+    /// Sends octets to the client, and returns whether the link failed at that. One that has failed before
+    /// loses them.
     pub(crate) fn reply(&mut self, text: &MessageText) -> bool
         ensures tells { (log : List Move) → Tells C.has_given C.has_got C.was_read C.count self.old log
             → Tells C.has_given C.has_got C.was_read C.count self.new (Sent (Client self.old.number) text.now ∷ log) }

@@ -4,10 +4,10 @@ ghost use Rattle.std.specs.Prelude.{◌≡◌, ℕ, List, [], ◌∷◌, Option,
 
 use crate::client_side::ClientSide;
 use crate::peers::Peers;
-use hc_events::{Event, Happening};
 use hc_framing::MessageText;
-use hc_link_traits::{Awaiting, Clock, Happened, Link, Links, Origins};
+use hc_links::{Awaiting, Clock, Happened, Link, Links, Origins};
 use hc_order::{Occurrence, Reason, Receiver};
+use hc_service::{Event, Happening};
 use std::alloc::{AllocError, Global};
 
 /// One client's connection, and the forwards that are open for it. The forward of the least number is read, or, where
@@ -26,8 +26,8 @@ impl<'a, C: Link, O: Origins, K: Clock> Connection<'a, C, O, K> {
     ghost use Rattle.hc_order.specs.Log.Move.{Before};
     ghost use Rattle.hc_connection.specs.Sides.{Tells};
 
-    /// A connection of that number, which a client has just opened. The number has to be greater than all that the cache
-    /// was told before, else that answers `UnknownNumber`.
+    /// A connection of that number, which a client has just opened. The number has to be greater than all
+    /// that the cache was told before, else that returns `UnknownNumber`.
     pub fn new(alloc: Global, number: u64, client: C, origins: &'a O, clock: &'a K) -> Self
         ensures tells { (last : Option ℕ) (given got : List ℕ) (reads : ℕ) → C.has_given client given → C.has_got client got → C.was_read client reads
             → Tells C.has_given C.has_got C.was_read C.count result.peers.client (Before last number given got reads (C.count client) ∷ []) }

@@ -4,7 +4,7 @@ ghost use Rattle.std.specs.Prelude.{◌≡◌, ℕ, List, [], ◌∷◌, length,
 ghost use Rattle.hc_connection.specs.Forwards.{HasFew, IsKept, KeepsSlot};
 
 use hc_framing::MessageText;
-use hc_link_traits::{Came, Link, LinkFailure, Origins, read_some, send_text};
+use hc_links::{Came, Link, LinkFailure, Origins, read_some, send_text};
 use std::alloc::{AllocError, Global};
 use std::collections::BTreeMap;
 
@@ -21,11 +21,11 @@ impl<'a, O: Origins> Forwards<'a, O> {
     ghost use Rattle.hc_connection.specs.Forwards.{AreKept, KeepsCame, NoneOpen, TellsLeast, is_open_in};
     ghost use Rattle.hc_order.specs.Log.{Move};
     ghost use Rattle.hc_order.specs.Log.Move.{Closed, Heard};
-    ghost use Rattle.hc_link_traits.specs.Telling.{occurs};
-    ghost use Rattle.hc_link_traits.specs.Telling.{TellsSent};
+    ghost use Rattle.hc_links.specs.Telling.{occurs};
+    ghost use Rattle.hc_links.specs.Telling.{TellsSent};
     ghost use Rattle.hc_order.specs.declared.occurrence.Reason.{Reason};
     ghost use Rattle.hc_order.specs.declared.receiver.Receiver.TheVariants.{Origin};
-    ghost use Rattle.hc_events.specs.declared.Happening.TheVariants.{OriginEnd, OriginFailed};
+    ghost use Rattle.hc_service.specs.declared.event.Happening.TheVariants.{OriginEnd, OriginFailed};
 
     /// None is open.
     pub(crate) fn new(alloc: Global, origins: &'a O) -> Self
@@ -58,7 +58,8 @@ impl<'a, O: Origins> Forwards<'a, O> {
         Ok(link)
     }
 
-    /// Opens a forward, and answers whether octets could be sent there. Where memory is refused, nothing is sent.
+    /// Opens a forward, and returns whether octets could be sent there. Where memory is refused, nothing is
+    /// sent.
     pub(crate) fn open(&mut self, forward: u64, text: &MessageText) -> Result<bool, AllocError>
         ensures { (log : List Move) → AreKept O.Link.has_given O.Link.has_got self.old.links log
             → TellsSent (AreKept O.Link.has_given O.Link.has_got self.new.links) result (Origin forward) text.now log }
@@ -74,7 +75,7 @@ impl<'a, O: Origins> Forwards<'a, O> {
         }
     }
 
-    /// Forgets a forward, and answers whether it was open.
+    /// Forgets a forward, and returns whether it was open.
     pub(crate) fn forget(&mut self, forward: u64) -> bool
         ensures failed { (log : List Move) (moment : ℕ) (reason : Reason) → AreKept O.Link.has_given O.Link.has_got self.old.links log
             → AreKept O.Link.has_given O.Link.has_got self.new.links (Heard (occurs moment (OriginFailed forward) reason) ∷ log) }

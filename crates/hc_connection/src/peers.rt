@@ -4,10 +4,10 @@ ghost use Rattle.std.specs.Prelude.{◌≡◌, ◌<◌, true, List, ◌∷◌, l
 
 use crate::client_side::ClientSide;
 use crate::forwards::Forwards;
-use hc_events::Happening;
 use hc_framing::MessageText;
-use hc_link_traits::{Came, Happened, Link, Origins};
+use hc_links::{Came, Happened, Link, Origins};
 use hc_order::{Reason, Receiver};
+use hc_service::Happening;
 use std::alloc::{AllocError, Global};
 use std::collections::VecDeque;
 
@@ -36,8 +36,8 @@ impl<'a, C: Link, O: Origins> Peers<'a, C, O> {
     ghost use Rattle.hc_order.specs.Log.{Move};
     ghost use Rattle.hc_order.specs.Log.Move.{Closed};
     ghost use Rattle.hc_connection.specs.Sides.{Tells, TellsSparing, is_heard_out};
-    ghost use Rattle.hc_link_traits.specs.Telling.{TellsIfOk, TellsPerhaps};
-    ghost use Rattle.hc_link_traits.specs.Telling.{TellsSent};
+    ghost use Rattle.hc_links.specs.Telling.{TellsIfOk, TellsPerhaps};
+    ghost use Rattle.hc_links.specs.Telling.{TellsSent};
     ghost use Rattle.hc_order.specs.declared.receiver.Receiver.TheVariants.{Client, Origin};
 
     /// A client who has just connected. No forward is open.

@@ -16,7 +16,7 @@ ghost use Rattle.hc_connection.specs.declared.client_side.ClientSide.{ClientSide
 ghost use Rattle.hc_connection.specs.Connections.{HasPassed};
 ghost use Rattle.hc_connection.specs.Sides.{IsUntouched, Rests};
 
-use hc_link_traits::{Clock, Link, Origins};
+use hc_links::{Clock, Link, Origins};
 
 /// Where a cache was at rest, was handed what happened at a connection of which nothing had happened before, and mirrors
 /// what has passed, it is at rest again once the links of the connection rest.

@@ -4,8 +4,8 @@ use Rattle.std.specs.FinMap.{get}
 use Rattle.std.proofs.lemmas.Bool.{and_parts}
 use Rattle.hc_head.specs.declared.head.Target.{Target}
 use Rattle.hc_update.specs.declared.stored.Stored.{Stored}
-use Rattle.hc_links.specs.Requests.{HasRequest, IsUnfinished}
-use Rattle.hc_links.proofs.RequestLaws.{request_not_unfinished}
+use Rattle.hc_incoming.specs.Requests.{HasRequest, IsUnfinished}
+use Rattle.hc_incoming.proofs.RequestLaws.{request_not_unfinished}
 use Rattle.hc_store.specs.declared.putting.Put.{Put}
 use Rattle.hc_store.specs.declared.putting.Put.TheVariants as put
 use Rattle.hc_store.specs.Calls.{Puts, grows, is_small_enough, may_put}

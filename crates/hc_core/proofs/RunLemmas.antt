@@ -3,7 +3,7 @@ use Rattle.std.proofs.Common.{◌≡◌, ◌≢◌, ℕ, ◌+◌, ◌≤◌, Boo
 use Rattle.hc_transcript.specs.Limits.{greatest_number}
 use Rattle.hc_history.specs.declared.verdicts.Verdict.TheVariants.{Yes}
 use Rattle.hc_history.specs.Verdicts.{IsVerdict}
-use Rattle.hc_events.specs.declared.Event.{Event}
+use Rattle.hc_service.specs.declared.event.Event.{Event}
 use Rattle.hc_service.specs.declared.fault.StepFault.{StepFault}
 use Rattle.hc_service.specs.declared.fault.StepFault.TheVariants.{Memory, MomentTooLarge, UnknownNumber, TooManyConnections, Failed}
 use Rattle.hc_service.specs.declared.settings.CoreSettings.{CoreSettings}
@@ -13,7 +13,7 @@ use Rattle.hc_service.specs.Settings.{AreGood}
 use Rattle.hc_service.specs.State.{State, new_state, usual_options}
 use Rattle.hc_service.proofs.BeginLemmas.{new_agrees}
 use Rattle.hc_service.proofs.RunLemmas.{runs_judged, steps_append}
-use Rattle.hc_machine.specs.Steps.{Cache, GivesStep, StandsFor}
+use Rattle.hc_core.specs.Steps.{Cache, GivesStep, StandsFor}
 use Rattle.hc_core.specs.declared.recording.Recording.{Recording}
 use Rattle.hc_core.specs.Recordings.{TakesStep}
 use Rattle.hc_core.specs.Results.{is_refusal, records_in}

@@ -1,3 +1,12 @@
+pub mod Reading
+pub mod Ending
+pub mod Waiting
+pub mod Standing
+pub mod Releasing
+pub mod Happenings
+pub mod Steps
+pub mod Settings
+pub mod Held
 pub mod Names
 pub mod Results
 pub mod Runs

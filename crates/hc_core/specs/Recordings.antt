@@ -1,13 +1,13 @@
 -- Plumbing: what the steps of a run have come to so far.
 use Rattle.std.specs.Prelude.{◌≡◌, ◌≢◌, Bool, not, [], ◌∷◌, ◌++◌, Err}
-use Rattle.hc_events.specs.declared.Event.{Event}
+use Rattle.hc_service.specs.declared.event.Event.{Event}
 use Rattle.hc_service.specs.declared.fault.StepFault.{StepFault}
 use Rattle.hc_service.specs.declared.fault.StepFault.TheVariants.{Memory}
 use Rattle.hc_service.specs.declared.settings.CoreSettings.{CoreSettings}
 use Rattle.hc_service.specs.Agreement.{IsReady}
 use Rattle.hc_service.specs.Runs.{StepResult}
 use Rattle.hc_service.specs.State.{State}
-use Rattle.hc_machine.specs.Steps.{Cache, GivesStep, StandsFor}
+use Rattle.hc_core.specs.Steps.{Cache, GivesStep, StandsFor}
 use Rattle.hc_core.specs.declared.recording.Recording.{Recording}
 use Rattle.hc_core.specs.Results.{is_refusal, records_in, texts_of}
 

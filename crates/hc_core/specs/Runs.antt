@@ -4,7 +4,7 @@ use Rattle.hc_transcript.specs.Limits.{greatest_number}
 use Rattle.hc_history.specs.declared.verdicts.Counts.{Counts}
 use Rattle.hc_history.specs.declared.verdicts.Verdict.TheVariants.{Yes}
 use Rattle.hc_history.specs.Verdicts.{IsVerdict}
-use Rattle.hc_events.specs.declared.Event.{Event}
+use Rattle.hc_service.specs.declared.event.Event.{Event}
 use Rattle.hc_service.specs.declared.settings.CoreSettings.{CoreSettings}
 use Rattle.hc_service.specs.Runs.{Runs, StepResult, nothing_yet, records_given, strict, transcript_of}
 use Rattle.hc_service.specs.Settings.{AreGood}

@@ -4,7 +4,7 @@ ghost use Rattle.std.specs.Prelude.{◌≡◌};
 ghost use Rattle.hc_core.specs.declared.fault.RunFault.TheVariants.{Memory};
 ghost use Rattle.hc_core.specs.Names.{run_fault};
 
-use hc_machine::CoreFault;
+use hc_service::CoreFault;
 use std::alloc::{AllocError, AllocFailed};
 use thiserror::Error;
 

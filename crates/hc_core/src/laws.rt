@@ -4,7 +4,7 @@ ghost use Rattle.std.specs.Prelude.{◌≡◌, ℕ, true, false, Some, None};
 ghost use Rattle.std.specs.FinMap.{get};
 ghost use Rattle.hc_head.specs.declared.head.Target.{Target};
 ghost use Rattle.hc_update.specs.declared.stored.Stored.{Stored};
-ghost use Rattle.hc_links.specs.Requests.{HasRequest};
+ghost use Rattle.hc_incoming.specs.Requests.{HasRequest};
 ghost use Rattle.hc_store.specs.declared.putting.Put.{Put};
 ghost use Rattle.hc_store.specs.declared.putting.Put.TheVariants as answers;
 ghost use Rattle.hc_store.specs.Calls.{Puts, grows, may_put};
@@ -21,8 +21,8 @@ pub fn one_reaction()
         → Reacts whole underway old one new → Reacts whole underway old other changed → (one ≡ other) × (new ≡ changed) }
 {}
 
-/// What may be put is put where that takes no memory, and what sets a cookie isn't where the store keeps no such
-/// responses; and each answer leaves one store.
+/// What may be put is put where that takes no memory, and what sets a cookie isn't where the store keeps no
+/// such responses; and each result leaves one store.
 pub fn what_takes_no_memory_is_put()
     ensures put { (target : Target) (stored : Stored) (old new : Holdings) (answer : Put)
         → may_put stored old ≡ true → grows target old.entries ≡ false

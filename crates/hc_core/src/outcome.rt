@@ -6,13 +6,13 @@ ghost use Rattle.hc_core.specs.Results.{is_cut_off, is_memory, is_refusal};
 use hc_fields::Octets;
 use hc_service::{Action, StepFault};
 
-/// What a step answers.
+/// What a step returns.
 pub type StepResult = Result<Vec<Action>, StepFault>;
 
 /// What came of a run.
 #[derive(Drop)]
 pub struct Run {
-    /// What each step answered, in order. A refused growth is the last.
+    /// What each step returned, in order. A refused growth is the last.
     pub results: Vec<StepResult>,
     /// The transcript: what stands at its front, and the text of each record that was given out, in order.
     pub transcript: Octets,

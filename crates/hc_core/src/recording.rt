@@ -6,15 +6,14 @@ ghost use Rattle.hc_service.specs.Sending.{recorded_format, records_of};
 ghost use Rattle.hc_core.specs.Results.{records_in, texts_of};
 ghost use Rattle.hc_core.specs.Recordings.{TakesStep};
 
+use crate::machine::Core;
 use crate::outcome::{StepResult, is_refusal};
-use hc_events::Event;
-use hc_machine::Core;
-use hc_service::Action;
+use hc_service::{Action, Event};
 use hc_transcript::{Format, Record, append_record};
 use std::alloc::{AllocError, Global};
 use std::hash::BuildHasher;
 
-/// What the steps answered so far, and the text of the transcript so far.
+/// What the steps returned so far, and the text of the transcript so far.
 #[derive(Drop)]
 pub(crate) struct Recording {
     pub results: Vec<StepResult>,
@@ -41,7 +40,7 @@ fn append_actions(text: &mut Vec<u8>, actions: &[Action]) -> Result<(), AllocErr
     Ok(())
 }
 
-/// The same of what a step answered.
+/// The same of what a step returned.
 fn append_result(text: &mut Vec<u8>, answer: &StepResult) -> Result<(), AllocError>
     ensures { OnOk result (text.new.items ≡ text.old.items ++ texts_of (records_in answer.now)) }
 {
@@ -62,7 +61,7 @@ pub(crate) fn new_recording(alloc: Global) -> Result<Recording, AllocError>
     })
 }
 
-/// Hands the event to the cache, and answers whether the run goes on.
+/// Hands the event to the cache, and returns whether the run goes on.
 pub(crate) fn take_step<S: BuildHasher>(
     core: &mut Core<S>,
     event: Event,

@@ -6,17 +6,16 @@ ghost use Rattle.hc_service.specs.declared.settings.CoreSettings.{CoreSettings};
 ghost use Rattle.hc_service.specs.Sending.{recorded_format};
 ghost use Rattle.hc_service.specs.Settings.{AreGood};
 ghost use Rattle.hc_service.specs.State.{new_state};
-ghost use Rattle.hc_machine.specs.Steps.{StandsFor};
+ghost use Rattle.hc_core.specs.Steps.{StandsFor};
 ghost use Rattle.hc_core.specs.declared.fault.RunFault.TheVariants.{Settings};
 ghost use Rattle.hc_core.specs.Runs.{IsRunOf};
 
 use crate::fault::RunFault;
+use crate::machine::Core;
 use crate::outcome::Run;
 use crate::recording::{Recording, new_recording, take_step};
-use hc_events::Event;
 use hc_fields::Octets;
-use hc_machine::Core;
-use hc_service::{CoreSettings, steps_are_runs, steps_end_ready};
+use hc_service::{CoreSettings, Event, steps_are_runs, steps_end_ready};
 use std::alloc::{AllocError, Global};
 use std::hash::BuildHasher;
 

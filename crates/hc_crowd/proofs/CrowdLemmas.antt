@@ -1,14 +1,14 @@
 -- What a crowd tells goes on.
 use Rattle.std.proofs.Common.{◌≡◌, ℕ, ◌≤◌, List, [], ◌∷◌, Result, Ok, Err, arith, subst, sym}
 use Rattle.std.specs.declared.alloc.AllocError.{AllocError}
-use Rattle.hc_events.specs.declared.Happening.{Happening}
+use Rattle.hc_service.specs.declared.event.Happening.{Happening}
 use Rattle.hc_order.specs.declared.occurrence.Occurrence.{Occurrence}
 use Rattle.hc_order.specs.declared.occurrence.Reason.{Reason}
 use Rattle.hc_order.specs.Log.{Move}
 use Rattle.hc_order.specs.Log.Move.{Before, Closed, Heard, Sent}
 use Rattle.hc_order.specs.declared.receiver.Receiver.{Receiver}
-use Rattle.hc_link_traits.specs.Telling.{occurs}
-use Rattle.hc_link_traits.specs.Telling.{TellsSent}
+use Rattle.hc_links.specs.Telling.{occurs}
+use Rattle.hc_links.specs.Telling.{TellsSent}
 use Rattle.hc_crowd.specs.Crowds.{AreUpTo}
 
 -- moments up to one are up to a later one

@@ -11,7 +11,7 @@ use Rattle.hc_order.specs.declared.receiver.Receiver.TheVariants.{Client, Origin
 use Rattle.hc_peers.specs.declared.client.Hearing.{Hearing}
 use Rattle.hc_peers.specs.Heard.{told}
 use Rattle.hc_peers.specs.Hearings.{IsHeardFor, IsRead}
-use Rattle.hc_events.specs.declared.Happening.TheVariants.{ClientEnd}
+use Rattle.hc_service.specs.declared.event.Happening.TheVariants.{ClientEnd}
 use Rattle.hc_flow.specs.declared.patience.Patience.{Patience}
 use Rattle.hc_peers.specs.Peers.{is_client_overdue}
 use Rattle.hc_peers.specs.declared.peers.Peers.{Peers}

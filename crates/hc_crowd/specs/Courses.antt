@@ -1,10 +1,10 @@
 -- How far a crowd has come, and when it serves no further client.
 use Rattle.std.specs.Prelude.{◌≡◌, ◌⊎◌, ◌≤◌, ℕ, ◌&&◌, ◌||◌, not, Bool, true, false, Option, Some, None, Result, Ok, Err}
 use Rattle.std.specs.declared.alloc.AllocError.{AllocError}
-use Rattle.hc_events.specs.declared.Happening.{Happening}
-use Rattle.hc_events.specs.declared.Happening.TheVariants.{ClientEnd}
+use Rattle.hc_service.specs.declared.event.Happening.{Happening}
+use Rattle.hc_service.specs.declared.event.Happening.TheVariants.{ClientEnd}
 use Rattle.hc_flow.specs.declared.patience.Patience.{Patience}
-use Rattle.hc_link_traits.specs.declared.happened.Happened.{Happened}
+use Rattle.hc_links.specs.declared.happened.Happened.{Happened}
 use Rattle.hc_order.specs.declared.occurrence.Reason.{Reason}
 use Rattle.hc_order.specs.declared.occurrence.Reason.TheVariants.{Stop, Displaced, Late as TooLate}
 use Rattle.hc_order.specs.declared.receiver.Receiver.{Receiver}

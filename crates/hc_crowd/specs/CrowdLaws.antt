@@ -5,7 +5,7 @@ use Rattle.hc_transcript.specs.Limits.{greatest_moment}
 use Rattle.hc_order.specs.declared.occurrence.Occurrence.{Occurrence}
 use Rattle.hc_order.specs.Log.{Move}
 use Rattle.hc_order.specs.Log.Move.{Heard}
-use Rattle.hc_link_traits.specs.Batches.{NothingIsOpen}
+use Rattle.hc_links.specs.Batches.{NothingIsOpen}
 use Rattle.hc_agenda.specs.declared.moments.Moments.{Moments}
 use Rattle.hc_agenda.proofs.MomentsLemmas.{in_time}
 use Rattle.hc_peers.specs.declared.peers.Peers.{Peers}

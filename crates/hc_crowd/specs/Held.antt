@@ -3,9 +3,9 @@ use Rattle.std.specs.Prelude.{◌≡◌, ◌⊎◌, ◌+◌, ◌-◌, ◌^◌, �
 use Rattle.std.specs.declared.alloc.AllocError.{AllocError}
 use Rattle.hc_agenda.specs.declared.holding.Holding.{Holding}
 use Rattle.hc_agenda.specs.Loads.{most_held}
-use Rattle.hc_events.specs.declared.Happening.{Happening}
-use Rattle.hc_events.specs.declared.Happening.TheVariants.{ClientBytes, OriginBytes}
-use Rattle.hc_link_traits.specs.declared.happened.Happened.{Happened}
+use Rattle.hc_service.specs.declared.event.Happening.{Happening}
+use Rattle.hc_service.specs.declared.event.Happening.TheVariants.{ClientBytes, OriginBytes}
+use Rattle.hc_links.specs.declared.happened.Happened.{Happened}
 use Rattle.hc_order.specs.declared.receiver.Receiver.{Receiver}
 use Rattle.hc_peers.specs.declared.peers.Peers.{Peers}
 use Rattle.hc_peers.specs.Keeping.{KeepsWithin}

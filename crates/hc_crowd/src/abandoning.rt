@@ -4,9 +4,9 @@ ghost use Rattle.std.specs.Prelude.{◌≡◌, ◌-◌, ◌⊎◌};
 
 use crate::traffic::Traffic;
 use hc_attended::{Waiters, World};
-use hc_events::Trouble;
 use hc_flow::Readiness;
-use hc_link_traits::Awaiting;
+use hc_incoming::Trouble;
+use hc_links::Awaiting;
 use hc_order::Receiver;
 use std::alloc::AllocError;
 

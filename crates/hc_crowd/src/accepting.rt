@@ -6,7 +6,7 @@ use crate::displacing::Displacement;
 use crate::limits::Limits;
 use crate::traffic::Traffic;
 use hc_attended::{Accepted, World};
-use hc_link_traits::Awaiting;
+use hc_links::Awaiting;
 use std::alloc::AllocError;
 
 impl<W: World> Traffic<W> {
@@ -67,8 +67,8 @@ impl<W: World> Traffic<W> {
                 && self.links.agenda.longest_lingering().is_some())
     }
 
-    /// Makes room for a client who may have connected: where there are as many links as there may be, that of the client
-    /// goes that has lingered for longest. Answers whether there is room.
+    /// Makes room for a client who may have connected: where there are as many links as there may be, that of
+    /// the client goes that has lingered for longest. Returns whether there is room.
     fn make_room(&mut self, most: usize) -> bool
         ensures kept { KeepsPeers W.Stream.has_given W.Stream.has_got self.old.links.peers self.new.links.peers }
         ensures room { result ≡ true → HasRoom self.new.links.peers most }
@@ -109,8 +109,8 @@ impl<W: World> Traffic<W> {
         Ok(())
     }
 
-    /// Accepts a client who has connected, if one is accepted in this batch still. Answers whether a further one may be
-    /// accepted.
+    /// Accepts a client who has connected, if one is accepted in this batch still. Returns whether a further
+    /// one may be accepted.
     fn accept<A: Awaiting>(&mut self, cache: &A, limits: Limits) -> Result<bool, AllocError>
         ensures kept { KeepsWithin W.Stream.has_given W.Stream.has_got limits.connections self.old.links.peers self.new.links.peers }
     {
@@ -129,8 +129,8 @@ impl<W: World> Traffic<W> {
         Ok(self.find_room(guest, cache, limits))
     }
 
-    /// There is no room. If a client has connected, who has been silent for longest gives way; where nobody is silent, and
-    /// behind a stop, it is turned away. Answers whether a further one may be accepted.
+    /// There is no room. If a client has connected, who has been silent for longest gives way; where nobody
+    /// is silent, and behind a stop, it is turned away. Returns whether a further one may be accepted.
     fn find_room<A: Awaiting>(&mut self, guest: u64, cache: &A, limits: Limits) -> bool
         requires full { HasRoom self.old.links.peers limits.connections → ⊥ }
         ensures kept { KeepsPeers W.Stream.has_given W.Stream.has_got self.old.links.peers self.new.links.peers }

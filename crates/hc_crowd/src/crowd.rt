@@ -8,11 +8,11 @@ use crate::traffic::Traffic;
 use crate::troubles::Troubles;
 use hc_agenda::{Holding, Moments};
 use hc_attended::World;
-use hc_events::{Event, Happening};
 use hc_framing::MessageText;
-use hc_link_traits::{Awaiting, Batches, Happened, Links};
+use hc_links::{Awaiting, Batches, Happened, Links};
 use hc_order::{Occurrence, Receiver};
 use hc_peers::Peers;
+use hc_service::{Event, Happening};
 use std::alloc::{AllocError, Global};
 
 /// The links of many clients and of the origin, in one thread. None is waited for: what is ready comes in batches.
@@ -71,7 +71,7 @@ impl<W: World> Crowd<W> {
     ghost use Rattle.hc_agenda.specs.Moments.{History, is_behind_in};
     ghost use Rattle.hc_agenda.specs.MomentsKept.{Tells, told_by};
     ghost use Rattle.hc_crowd.specs.Held.{HoldsWhatCame, grown_by};
-    ghost use Rattle.hc_link_traits.specs.Telling.{TellsSent};
+    ghost use Rattle.hc_links.specs.Telling.{TellsSent};
     ghost use Rattle.hc_order.specs.Log.{Move};
     ghost use Rattle.hc_peers.specs.Keeping.{HearsWithin};
     ghost use Rattle.hc_peers.specs.Peers.{ArePeers, Bounds, last_given};
@@ -150,7 +150,7 @@ impl<W: World> Crowd<W> {
 }
 
 impl<W: World> Links for Crowd<W> {
-    ghost use Rattle.hc_link_traits.specs.Telling.{IsInTurn};
+    ghost use Rattle.hc_links.specs.Telling.{IsInTurn};
     ghost use Rattle.hc_crowd.specs.Crowds.{CrowdTells, MayTell, bounds_of};
     ghost use Rattle.hc_crowd.specs.declared.limits.Limits.{Limits};
     ghost use Rattle.hc_peers.specs.Peers.{HasFewLinks};

@@ -6,7 +6,7 @@ use crate::limits::Limits;
 use crate::traffic::Traffic;
 use hc_attended::World;
 use hc_flow::Pace;
-use hc_link_traits::Awaiting;
+use hc_links::Awaiting;
 use hc_order::Receiver;
 
 /// For so many milliseconds somebody has to have been silent who gives way: a request may be on its way.

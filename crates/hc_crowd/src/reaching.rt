@@ -3,10 +3,10 @@
 ghost use Rattle.std.specs.Prelude.{◌≡◌, ◌⊎◌, ◌+◌, ◌∷◌, [], ℕ, IfSome, None, Some, true};
 
 use crate::traffic::Traffic;
-use hc_agenda::Candidate;
+use hc_agenda::PlaceCandidate;
 use hc_attended::World;
-use hc_events::Trouble;
-use hc_link_traits::Awaiting;
+use hc_incoming::Trouble;
+use hc_links::Awaiting;
 use hc_order::Receiver;
 
 impl<W: World> Traffic<W> {
@@ -57,7 +57,7 @@ impl<W: World> Traffic<W> {
 
     /// The next forward that may have a place gets it, and begins to connect. One that was closed meanwhile, or has failed,
     /// gets none.
-    fn give_place(&mut self, candidate: Candidate)
+    fn give_place(&mut self, candidate: PlaceCandidate)
         requires next { IsNext self.old.links.peers.places (Some candidate) }
         ensures kept { KeepsPeers W.Stream.has_given W.Stream.has_got self.old.links.peers self.new.links.peers }
         ensures fewer { count_waiting self.new.links.peers.places + 1 ≡ count_waiting self.old.links.peers.places }

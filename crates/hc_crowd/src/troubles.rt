@@ -1,9 +1,10 @@
 //! What was wrong with what came, and with links, by kind.
 
-use hc_events::{Incident, Trouble};
 use hc_head::Target;
-use hc_link_traits::Awaiting;
+use hc_incoming::Trouble;
+use hc_links::Awaiting;
 use hc_order::Receiver;
+use hc_service::Incident;
 use std::alloc::{AllocError, Global};
 use std::collections::VecDeque;
 

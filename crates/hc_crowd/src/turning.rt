@@ -6,11 +6,11 @@ use crate::limits::Limits;
 use crate::traffic::Traffic;
 use hc_agenda::Holding;
 use hc_attended::World;
-use hc_events::Happening;
 use hc_flow::{Heard, Pace};
-use hc_link_traits::{Awaiting, Happened};
+use hc_links::{Awaiting, Happened};
 use hc_order::{Reason, Receiver};
 use hc_peers::{Hearing, happened};
+use hc_service::Happening;
 use std::alloc::AllocError;
 
 impl<W: World> Traffic<W> {

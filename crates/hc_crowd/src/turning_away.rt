@@ -11,8 +11,9 @@ impl<W: World> Traffic<W> {
     ghost use Rattle.hc_peers.specs.Keeping.{KeepsPeers};
     ghost use Rattle.hc_peers.specs.Peers.{HasRoom};
 
-    /// Turns away a client who has connected, as far as there is room for such ones, where there is none for so many links
-    /// and one more. Answers whether one was. Where there is no room for such ones, clients wait until they are accepted.
+    /// Turns away a client who has connected, as far as there is room for such ones, where there is none for
+    /// so many links and one more. Returns whether one was. Where there is no room for such ones, clients
+    /// wait until they are accepted.
     pub(crate) fn turn_away(&mut self, guest: u64, most: usize) -> bool
         requires full { HasRoom self.old.links.peers most → ⊥ }
         ensures kept { KeepsPeers W.Stream.has_given W.Stream.has_got self.old.links.peers self.new.links.peers }

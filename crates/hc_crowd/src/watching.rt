@@ -5,7 +5,7 @@ ghost use Rattle.std.specs.Prelude.{◌≡◌, true};
 use crate::traffic::Traffic;
 use hc_agenda::{Deadline, Timeout};
 use hc_attended::World;
-use hc_events::Trouble;
+use hc_incoming::Trouble;
 use hc_order::Receiver;
 
 impl<W: World> Traffic<W> {

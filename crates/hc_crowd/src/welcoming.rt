@@ -5,14 +5,14 @@ ghost use Rattle.std.specs.Prelude.{List, [], ℕ};
 use crate::limits::Limits;
 use crate::traffic::Traffic;
 use hc_attended::World;
-use hc_events::Happening;
 use hc_flow::Presence;
-use hc_link_traits::Happened;
+use hc_links::Happened;
 use hc_order::Reason;
+use hc_service::Happening;
 use std::alloc::AllocError;
 
 impl<W: World> Traffic<W> {
-    ghost use Rattle.hc_link_traits.specs.Telling.{TellsIfOk};
+    ghost use Rattle.hc_links.specs.Telling.{TellsIfOk};
     ghost use Rattle.hc_peers.specs.Keeping.{HearsWithin, KeepsPeers};
     ghost use Rattle.hc_order.specs.Log.{Move};
     ghost use Rattle.hc_peers.specs.Heard.{HeardInTurn, MayBeHeard, NoAnswer};

@@ -9,7 +9,7 @@ use hc_cases::Unanswered;
 use hc_core::{Run, run};
 use hc_crowd_world::Play;
 use hc_drive::DriveFault;
-use hc_events::Event;
+use hc_service::Event;
 use std::alloc::Global;
 use std::mem;
 

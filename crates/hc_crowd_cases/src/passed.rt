@@ -3,9 +3,9 @@
 use crate::by_link::ByLink;
 use hc_core::{Action, StepResult};
 use hc_crowd_world::has_within;
-use hc_events::{Event, Happening};
 use hc_framing::MessageText;
 use hc_order::Receiver;
+use hc_service::{Event, Happening};
 use hc_transcript::{Format, append_record};
 use std::alloc::{AllocError, Global};
 
@@ -67,7 +67,7 @@ pub(crate) fn sent_in(
 }
 
 impl Sent {
-    /// Puts in what a step sent, if its records stand within so many octets, and answers whether they do.
+    /// Puts in what a step sent, if its records stand within so many octets, and returns whether they do.
     fn put_step(&mut self, step: &StepResult, kept: usize) -> Result<bool, AllocError> {
         let Ok(actions) = step else {
             return Ok(true);

@@ -7,7 +7,7 @@ use hc_crowd::{Crowd, Limits, World};
 use hc_crowd_world::{Made, Noted, Notes, Play, Script, Sheet};
 use hc_drive::{DriveFault, Unwatched, serve_crowd};
 use hc_fields::Octets;
-use hc_link_traits::{Batches, Buffered, Recorder};
+use hc_links::{Batches, Buffered, Recorder};
 use std::alloc::{AllocError, Global};
 use std::cell::RefCell;
 use std::hash::BuildHasher;
@@ -80,7 +80,7 @@ fn new_core(alloc: Global) -> Result<Core, Unanswered> {
     }
 }
 
-/// Plays the script, and answers what came of it.
+/// Plays the script, and returns what came of it.
 pub(crate) fn perform(alloc: Global, script: Script) -> Result<Played, Unanswered> {
     let limits = script.limits;
     let writes = script.writes;

@@ -6,8 +6,8 @@ use crate::replies::say_replies_in;
 use hc_cases::Unanswered;
 use hc_crowd_world::{Notes, Peer, Play};
 use hc_drive::DriveFault;
-use hc_events::{Event, Happening};
 use hc_order::{Reason, Receiver};
+use hc_service::{Event, Happening};
 use std::alloc::{AllocError, Global};
 use std::fmt::Write;
 

@@ -2,8 +2,8 @@
 
 use crate::telling::say_count;
 use hc_crowd::{Counted, Troubles, Whose};
-use hc_events::Trouble;
 use hc_head::Target;
+use hc_incoming::Trouble;
 use std::alloc::{AllocError, Global};
 use std::fmt::Write;
 

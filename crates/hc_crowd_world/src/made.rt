@@ -30,7 +30,7 @@ impl<'a> Made<'a> {
         }
     }
 
-    /// Who has connected is accepted, as the guest of that number. Answers the link, if anybody has.
+    /// Who has connected is accepted, as the guest of that number. Returns the link, if anybody has.
     fn accepts(&self, guest: u64) -> Option<Receiver> {
         match self.play.try_borrow_mut() {
             Ok(mut play) => play.accept(guest),

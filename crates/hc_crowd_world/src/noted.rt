@@ -4,7 +4,7 @@ ghost use Rattle.hc_order.specs.declared.occurrence.Occurrence.{Occurrence};
 
 use crate::notes::Notes;
 use hc_framing::MessageText;
-use hc_link_traits::{Awaiting, Batches, Links};
+use hc_links::{Awaiting, Batches, Links};
 use hc_order::{Occurrence, Receiver};
 use std::alloc::{AllocError, Global};
 

@@ -1,7 +1,7 @@
 //! Notes of what has happened.
 
-use hc_events::{Event, Happening};
 use hc_order::{Occurrence, Reason};
+use hc_service::{Event, Happening};
 use std::alloc::{AllocError, Global};
 
 /// Notes of what has happened.

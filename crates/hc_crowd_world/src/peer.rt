@@ -85,7 +85,7 @@ impl Peer {
         }
     }
 
-    /// It does that. Answers what the system tells of the link.
+    /// It does that. Returns what the system tells of the link.
     pub(crate) fn acts(&mut self, act: &Act) -> Result<Readiness, AllocError> {
         match act {
             Act::Says(octets) => self.says(octets.as_slice()),

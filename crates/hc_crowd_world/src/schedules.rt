@@ -138,7 +138,7 @@ impl Script {
         self.cues.put(tick, Deed::Stops)
     }
 
-    /// What clients do. Answers the last millisecond of all.
+    /// What clients do. Returns the last millisecond of all.
     fn put_clients(&mut self, count: u64, requests: &[Vec<u8>]) -> Result<u64, AllocError> {
         let pause = self.dice.scale();
         let mut tick = 0u64;
@@ -151,8 +151,8 @@ impl Script {
         Ok(last)
     }
 
-    /// A client connects then, says some requests, or nothing, and ends, or resets its link, or stays. Answers the last
-    /// millisecond.
+    /// A client connects then, says some requests, or nothing, and ends, or resets its link, or stays.
+    /// Returns the last millisecond.
     fn put_client(
         &mut self,
         tick: u64,
@@ -168,7 +168,7 @@ impl Script {
         Ok(behind)
     }
 
-    /// What a client says, if anything. Answers the last millisecond.
+    /// What a client says, if anything. Returns the last millisecond.
     fn put_requests(
         &mut self,
         tick: u64,
@@ -247,7 +247,7 @@ impl Script {
         self.cues.put(behind, Deed::Places(ALL))
     }
 
-    /// The other side of a link says the text in pieces by chance. Answers the last millisecond.
+    /// The other side of a link says the text in pieces by chance. Returns the last millisecond.
     pub(crate) fn say_in_pieces(
         &mut self,
         from: u64,

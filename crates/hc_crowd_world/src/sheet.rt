@@ -2,7 +2,7 @@
 
 ghost use Rattle.std.specs.Prelude.{◌≡◌};
 
-use hc_link_traits::{Link, LinkFailure};
+use hc_links::{Link, LinkFailure};
 use hc_transcript::Format;
 use std::alloc::{AllocError, Global};
 

@@ -9,8 +9,8 @@ use hc_order::Receiver;
 use std::fmt::Write;
 
 impl Play {
-    /// Who has connected first of those that wait is accepted, as the guest of that number. Answers the link, if anybody
-    /// waits.
+    /// Who has connected first of those that wait is accepted, as the guest of that number. Returns the link,
+    /// if anybody waits.
     pub(crate) fn accept(&mut self, guest: u64) -> Option<Receiver> {
         if self.tally.accepted >= self.tally.connected {
             return None;
@@ -24,7 +24,7 @@ impl Play {
         Some(link)
     }
 
-    /// That somebody has connected who wasn't accepted is told anew. Answers whether it could be.
+    /// That somebody has connected who wasn't accepted is told anew. Returns whether it could be.
     pub(crate) fn ask_for_clients(&mut self) -> bool {
         if self.tally.accepted >= self.tally.connected {
             return true;

@@ -8,7 +8,7 @@ use Rattle.hc_transcript.specs.Records.{record_text}
 use Rattle.hc_service.specs.declared.action.Action.{Action}
 use Rattle.hc_service.specs.declared.action.Action.TheVariants as action
 use Rattle.hc_service.specs.Sending.{recorded_format, records_of}
-use Rattle.hc_link_traits.specs.Links.{IsBeginning}
+use Rattle.hc_links.specs.Links.{IsBeginning}
 use Rattle.hc_order.specs.Log.{Move, carried}
 use Rattle.hc_drive.specs.declared.fault.DriveFault.{DriveFault}
 use Rattle.hc_drive.specs.Carrying.{AreCut, AreDone, WritesRecord, texts_in}

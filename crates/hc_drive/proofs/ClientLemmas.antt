@@ -7,9 +7,9 @@ use Rattle.std.proofs.lemmas.Bool.Decides.{nat_tests}
 use Rattle.hc_transcript.specs.declared.record.Record.{Record}
 use Rattle.hc_transcript.specs.Limits.{greatest_number}
 use Rattle.hc_transcript.specs.Records.{opening}
-use Rattle.hc_events.specs.declared.Event.{Event}
-use Rattle.hc_events.specs.declared.Happening.{Happening}
-use Rattle.hc_events.specs.declared.Happening.TheVariants.{ClientOpened, ClientBytes, ClientEnd, OriginBytes, OriginEnd, OriginFailed, Stopping}
+use Rattle.hc_service.specs.declared.event.Event.{Event}
+use Rattle.hc_service.specs.declared.event.Happening.{Happening}
+use Rattle.hc_service.specs.declared.event.Happening.TheVariants.{ClientOpened, ClientBytes, ClientEnd, OriginBytes, OriginEnd, OriginFailed, Stopping}
 use Rattle.hc_service.specs.declared.action.Action.{Action}
 use Rattle.hc_service.specs.declared.action.Action.TheVariants as action
 use Rattle.hc_service.specs.declared.fault.StepFault.{StepFault}
@@ -24,7 +24,7 @@ use Rattle.hc_service.specs.Settings.{AreGood}
 use Rattle.hc_service.specs.State.{State, Table, new_state, new_state_with, usual_options}
 use Rattle.hc_service.specs.Follows.{last_by}
 use Rattle.hc_service.proofs.TableLemmas.{get_none}
-use Rattle.hc_machine.specs.Steps.{Cache, StandsFor}
+use Rattle.hc_core.specs.Steps.{Cache, StandsFor}
 use Rattle.hc_order.specs.declared.occurrence.Occurrence.{Occurrence}
 use Rattle.hc_order.specs.declared.receiver.Receiver.TheVariants.{Client, Origin}
 use Rattle.hc_order.specs.Mirrors.{Mirrors, last_opened}
@@ -33,10 +33,10 @@ use Rattle.hc_order.specs.Log.Move.{Before, Closed, Heard, Sent}
 use Rattle.hc_order.specs.Passed.{AreServed, IsUsual, events_of, passed}
 use Rattle.hc_order.specs.Resting.{IsAtRest}
 use Rattle.hc_connection.specs.declared.client_side.ClientSide.{ClientSide}
-use Rattle.hc_link_traits.specs.Clients.{HandsBack, IsFresh, ServedLink}
+use Rattle.hc_links.specs.Clients.{HandsBack, IsFresh, ServedLink}
 use Rattle.hc_connection.specs.Connections.{HasPassed}
 use Rattle.hc_connection.specs.Forwards.{AreKept, NoneOpen}
-use Rattle.hc_link_traits.specs.Links.{IsBeginning}
+use Rattle.hc_links.specs.Links.{IsBeginning}
 use Rattle.hc_connection.specs.Moves.{AreMoments, AreOf, HaveReasons, IsOf, earlier_or, failures_before, first_in, given_in, sent_in}
 use Rattle.hc_connection.specs.Sides.{CountsFailed, Opens, Tells}
 use Rattle.hc_drive.specs.declared.fault.DriveFault.{DriveFault}

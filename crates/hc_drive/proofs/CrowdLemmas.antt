@@ -7,7 +7,7 @@ use Rattle.std.specs.Ordering.{nat_cmp}
 use Rattle.std.specs.Prelude.{is_some}
 use Rattle.hc_transcript.specs.Limits.{greatest_moment, greatest_number}
 use Rattle.hc_transcript.specs.Records.{opening}
-use Rattle.hc_events.specs.declared.Event.{Event}
+use Rattle.hc_service.specs.declared.event.Event.{Event}
 use Rattle.hc_service.specs.declared.fault.StepFault.{StepFault}
 use Rattle.hc_service.specs.declared.fault.StepFault.TheVariants.{Memory, MomentTooLarge, UnknownNumber, TooManyConnections, Failed}
 use Rattle.hc_service.specs.declared.settings.CoreOptions.{CoreOptions}
@@ -17,18 +17,18 @@ use Rattle.hc_service.specs.Sending.{recorded_format}
 use Rattle.hc_service.specs.Settings.{AreGood}
 use Rattle.hc_service.specs.State.{State, Table, new_state_with}
 use Rattle.hc_service.proofs.TableLemmas.{get_none}
-use Rattle.hc_machine.specs.Steps.{Cache, StandsFor}
+use Rattle.hc_core.specs.Steps.{Cache, StandsFor}
 use Rattle.hc_order.specs.declared.occurrence.Occurrence.{Occurrence}
 use Rattle.hc_order.specs.Log.{Move, carried}
 use Rattle.hc_order.specs.Log.Move.{Heard}
 use Rattle.hc_order.specs.Mirrors.{Mirrors}
 use Rattle.hc_order.specs.Passed.{IsUsual, events_of, passed}
 use Rattle.hc_order.specs.Resting.{IsAtRest}
-use Rattle.hc_link_traits.specs.Batches.{NothingIsOpen}
-use Rattle.hc_link_traits.specs.Links.{IsBeginning}
+use Rattle.hc_links.specs.Batches.{NothingIsOpen}
+use Rattle.hc_links.specs.Links.{IsBeginning}
 use Rattle.hc_drive.specs.declared.fault.DriveFault.{DriveFault}
 use Rattle.hc_drive.specs.declared.fault.DriveFault.TheVariants as fault
-use Rattle.hc_drive.specs.Crowds.{Breaks, EndsBetween, Ends, GivesCrowd, GivesRecording, IsExpectedFrom, IsExpectedOf, IsSafe, Releases, Stage, Stays, Telling, stage}
+use Rattle.hc_drive.specs.Crowds.{Breaks, DriveStage, EndsBetween, Ends, GivesCrowd, GivesRecording, IsExpectedFrom, IsExpectedOf, IsSafe, Releases, Stays, Telling, stage}
 use Rattle.hc_drive.specs.Drives.{BreaksAsUsual, IsUsualFrom, Leads, answers_by, most_rounds, occurrences_by, texts_given}
 use Rattle.hc_drive.specs.Rounds.{AnswersBy, Break, IsRound, IsToldBy, MayBreak, StopsAt}
 use Rattle.hc_drive.specs.Rounds.Break.{AtAnswer, BeforeEvent, Carrying}
@@ -86,7 +86,7 @@ module _ (T : List Move → Type 0) (H : List ℕ → Type 0) (in_time : IsInTim
       apart e = cc
 
 -- so it is where the cache was a new one
-expected_from : (laws : Laws) (most : ℕ) (why : DriveFault) (new : Telling) (from : Stage) (results : List StepResult) (break : Break) (log : List Move) (text : List ℕ) → IsInTime new.tells
+expected_from : (laws : Laws) (most : ℕ) (why : DriveFault) (new : Telling) (from : DriveStage) (results : List StepResult) (break : Break) (log : List Move) (text : List ℕ) → IsInTime new.tells
     → IsToldBy break why ⊎ EndsBetween break why → IsUsualFrom most from.cache from.log results break → StopsAt break new.tells new.holds log text → IsExpectedFrom most from results break why
 expected_from laws most why new from results break log text in_time told usual stops settings options good is_new less none few =
     is_expected new.tells new.holds in_time why log text break told
@@ -109,14 +109,14 @@ at_rest room s log m closed = (none_in s.connections (λ c. m.connections c ∙ 
 
 -- ---- the turns so far
 
-pub record TurnsSoFar (most : ℕ) (was_safe : Type 0) (new : Telling) (from : Stage) (cache : Cache) (turns : ℕ) : Type 0 where
+pub record TurnsSoFar (most : ℕ) (was_safe : Type 0) (new : Telling) (from : DriveStage) (cache : Cache) (turns : ℕ) : Type 0 where
   pub rounds : ℕ
   pub few : rounds ≤ turns
   pub so_far : SoFar most new.tells new.holds from.cache cache from.log from.text rounds
   pub safe : was_safe → IsSafe new from so_far.occurrences so_far.results
 
 -- the records of all rounds stand for good
-all_safe : (new : Telling) (from : Stage) (occurrences : List Occurrence) (results : List StepResult) → new.shows (passed occurrences results from.log) → new.keeps (from.text ++ texts_given results)
+all_safe : (new : Telling) (from : DriveStage) (occurrences : List Occurrence) (results : List StepResult) → new.shows (passed occurrences results from.log) → new.keeps (from.text ++ texts_given results)
     → IsSafe new from occurrences results
 all_safe new from occurrences results shown kept = record {
   front = occurrences;
@@ -129,7 +129,7 @@ all_safe new from occurrences results shown kept = record {
   kept = kept;
 }
 
-pub turns_begin : (most : ℕ) (old : Telling) (from : Stage) → old.tells from.log → old.holds from.text → TurnsSoFar most (old.shows from.log × old.keeps from.text) old from from.cache 0
+pub turns_begin : (most : ℕ) (old : Telling) (from : DriveStage) → old.tells from.log → old.holds from.text → TurnsSoFar most (old.shows from.log × old.keeps from.text) old from from.cache 0
 turns_begin most old from told held = record {
   rounds = 0;
   few = omega arith;
@@ -137,7 +137,7 @@ turns_begin most old from told held = record {
   safe = λ was. all_safe old from [] [] was.0 (subst old.keeps (sym (append-nil from.text)) was.1);
 }
 
-module _ {most : ℕ} {was_safe : Type 0} {mid : Telling} {from : Stage} {between : Cache} {turns : ℕ} (f : TurnsSoFar most was_safe mid from between turns) where
+module _ {most : ℕ} {was_safe : Type 0} {mid : Telling} {from : DriveStage} {between : Cache} {turns : ℕ} (f : TurnsSoFar most was_safe mid from between turns) where
   -- what has passed by then
   abbrev pub log_so_far : List Move
   log_so_far = passed f.so_far.occurrences f.so_far.results from.log
@@ -281,7 +281,7 @@ told_at T H BeforeEvent log text stops = (log, stops.0)
 told_at T H (AtAnswer occurrence step) log text stops = (Heard occurrence ∷ log, stops.0)
 told_at T H (Carrying occurrence actions) log text stops = (carried stops.done (Heard occurrence ∷ log), stops.told)
 
-pub still_told : (T : Type 0) (result : Result T DriveFault) (most : ℕ) (was_safe : Type 0) (new : Telling) (from : Stage) (cache : Cache)
+pub still_told : (T : Type 0) (result : Result T DriveFault) (most : ℕ) (was_safe : Type 0) (new : Telling) (from : DriveStage) (cache : Cache)
     → GivesCrowd most was_safe result new from cache → (later : List Move) × new.tells later
 still_told T (Ok done) most was_safe new from cache ends = (passed ends.rounds.occurrences ends.rounds.results from.log, ends.rounds.told)
 still_told T (Err why) most was_safe new from cache breaks =

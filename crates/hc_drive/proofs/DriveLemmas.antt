@@ -8,9 +8,9 @@ use Rattle.std.specs.declared.vec.Vec.{Vec}
 use Rattle.hc_transcript.specs.declared.record.Record.{Record}
 use Rattle.hc_transcript.specs.Limits.{greatest_number}
 use Rattle.hc_transcript.specs.Records.{record_text}
-use Rattle.hc_events.specs.declared.Event.{Event}
-use Rattle.hc_events.specs.declared.Happening.{Happening}
-use Rattle.hc_events.specs.declared.Happening.TheVariants.{ClientOpened, ClientBytes, ClientEnd, OriginBytes, OriginEnd, OriginFailed, Stopping}
+use Rattle.hc_service.specs.declared.event.Event.{Event}
+use Rattle.hc_service.specs.declared.event.Happening.{Happening}
+use Rattle.hc_service.specs.declared.event.Happening.TheVariants.{ClientOpened, ClientBytes, ClientEnd, OriginBytes, OriginEnd, OriginFailed, Stopping}
 use Rattle.hc_service.specs.declared.action.Action.{Action}
 use Rattle.hc_service.specs.declared.fault.StepFault.{StepFault}
 use Rattle.hc_service.specs.declared.fault.StepFault.TheVariants.{Memory, MomentTooLarge, UnknownNumber, TooManyConnections, Failed}
@@ -21,14 +21,14 @@ use Rattle.hc_service.specs.Sending.{recorded_format, records_of}
 use Rattle.hc_service.specs.Settings.{AreGood}
 use Rattle.hc_service.specs.State.{State}
 use Rattle.hc_service.proofs.RunLemmas.{runs_steps, steps_append}
-use Rattle.hc_machine.specs.Steps.{Cache, GivesStep, StandsFor}
+use Rattle.hc_core.specs.Steps.{Cache, GivesStep, StandsFor}
 use Rattle.hc_order.specs.declared.occurrence.Occurrence.{Occurrence}
 use Rattle.hc_order.specs.Log.{Move, carried}
 use Rattle.hc_order.specs.Log.Move.{Before, Closed, Heard, Sent}
 use Rattle.hc_order.specs.declared.receiver.Receiver.TheVariants.{Client, Origin}
 use Rattle.hc_order.specs.Mirrors.{MayHappen, Mirrors, closed_in, opened_in}
 use Rattle.hc_order.specs.Resting.{IsAtRest}
-use Rattle.hc_link_traits.specs.Links.{IsBeginning}
+use Rattle.hc_links.specs.Links.{IsBeginning}
 use Rattle.hc_connection.specs.Moves.{earlier_or, first_in, is_closed_in, is_ended_in}
 use Rattle.hc_connection.specs.Sides.{IsUntouched}
 use Rattle.hc_drive.specs.declared.fault.DriveFault.{DriveFault}

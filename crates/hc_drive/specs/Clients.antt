@@ -2,20 +2,20 @@
 use Rattle.std.specs.Prelude.{◌≡◌, ◌⊎◌, ℕ, zero, suc, ◌+◌, ◌<◌, ◌≤◌, true, nat_lt, List, [], ◌∷◌, ◌++◌, length, Option, Some, None, Result, Ok, Err}
 use Rattle.hc_transcript.specs.declared.record.Record.{Record}
 use Rattle.hc_transcript.specs.Limits.{greatest_moment, greatest_number}
-use Rattle.hc_events.specs.declared.Happening.TheVariants.{ClientOpened}
+use Rattle.hc_service.specs.declared.event.Happening.TheVariants.{ClientOpened}
 use Rattle.hc_service.specs.declared.fault.StepFault.TheVariants.{Memory, MomentTooLarge, UnknownNumber, TooManyConnections, Failed}
 use Rattle.hc_service.specs.declared.settings.CoreSettings.{CoreSettings}
 use Rattle.hc_service.specs.Agreement.{Agrees, History}
 use Rattle.hc_service.specs.Runs.{IsJudgedRight, StepResult, records_given, transcript_of}
 use Rattle.hc_service.specs.Settings.{AreGood}
 use Rattle.hc_service.specs.State.{State, new_state}
-use Rattle.hc_machine.specs.Steps.{Cache, StandsFor}
+use Rattle.hc_core.specs.Steps.{Cache, StandsFor}
 use Rattle.hc_order.specs.declared.occurrence.Occurrence.{Occurrence}
 use Rattle.hc_order.specs.Mirrors.{Mirrors}
 use Rattle.hc_drive.specs.Rounds.{Break}
 use Rattle.hc_drive.specs.Rounds.Break.{AtAnswer}
-use Rattle.hc_link_traits.specs.Clients.{ServedLink}
-use Rattle.hc_link_traits.specs.Links.{CountsFailure, IsBeginning}
+use Rattle.hc_links.specs.Clients.{ServedLink}
+use Rattle.hc_links.specs.Links.{CountsFailure, IsBeginning}
 use Rattle.hc_connection.specs.Moves.{AreMoments, AreOf, HaveReasons, first_in, given_in, sent_in}
 use Rattle.hc_order.specs.Log.{Move}
 use Rattle.hc_order.specs.Log.Move.{Before}

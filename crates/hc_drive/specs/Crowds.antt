@@ -8,7 +8,7 @@ use Rattle.hc_service.specs.Agreement.{Agrees, History}
 use Rattle.hc_service.specs.Runs.{StepResult, records_given}
 use Rattle.hc_service.specs.Settings.{AreGood}
 use Rattle.hc_service.specs.State.{State, new_state_with}
-use Rattle.hc_machine.specs.Steps.{Cache, StandsFor}
+use Rattle.hc_core.specs.Steps.{Cache, StandsFor}
 use Rattle.hc_order.specs.declared.occurrence.Occurrence.{Occurrence}
 use Rattle.hc_order.specs.Log.{Move}
 use Rattle.hc_order.specs.Mirrors.{Mirrors}
@@ -24,12 +24,12 @@ use Rattle.hc_drive.specs.Rounds.Break.{BeforeEvent}
 -- ---- where a driver stands
 
 -- what its cache is, what has passed at the links, and what was written of that
-pub record Stage : Type 0 where
+pub record DriveStage : Type 0 where
   pub cache : Cache
   pub log : List Move
   pub text : List ℕ
 
-abbrev pub stage : Cache → List Move → List ℕ → Stage
+abbrev pub stage : Cache → List Move → List ℕ → DriveStage
 stage cache log text = record { cache = cache; log = log; text = text }
 
 -- what links and a recorder tell: what has passed, by which log clients have seen no more, what was written, and what of that stands for good
@@ -76,12 +76,12 @@ IsExpectedOf (fault.Core TooManyConnections) break = ⊥
 IsExpectedOf (fault.Core Failed) break = break ≡ BeforeEvent
 
 -- so it is, where the cache was a new one with room for as many connections as the links have open, and nothing had passed, as far as records can be numbered
-abbrev pub IsExpectedFrom : ℕ → Stage → List StepResult → Break → DriveFault → Type 0
+abbrev pub IsExpectedFrom : ℕ → DriveStage → List StepResult → Break → DriveFault → Type 0
 IsExpectedFrom most from results break why = (settings : CoreSettings) (options : CoreOptions) → AreGood settings → StandsFor settings from.cache (new_state_with settings options)
     → most ≤ options.connections → from.log ≡ [] → length (records_given (results ++ answers_by break)) ≤ greatest_number → IsExpectedOf why break
 
 -- what happened may happen in turn, where so many connections are open at once at most, and was served, until a round broke off, or the driver ended between rounds
-pub record CutOff (most : ℕ) (why : DriveFault) (new : Telling) (from : Stage) (cache : Cache) : Type 0 where
+pub record CutOff (most : ℕ) (why : DriveFault) (new : Telling) (from : DriveStage) (cache : Cache) : Type 0 where
   pub occurrences : List Occurrence
   pub results : List StepResult
   pub break : Break
@@ -97,7 +97,7 @@ pub record CutOff (most : ℕ) (why : DriveFault) (new : Telling) (from : Stage)
 -- ---- what clients have seen
 
 -- it is no more than what had passed by a front of the rounds, of which the records stand for good
-pub record IsSafe (new : Telling) (from : Stage) (occurrences : List Occurrence) (results : List StepResult) : Type 0 where
+pub record IsSafe (new : Telling) (from : DriveStage) (occurrences : List Occurrence) (results : List StepResult) : Type 0 where
   pub front : List Occurrence
   pub behind : List Occurrence
   pub answered : List StepResult
@@ -108,23 +108,23 @@ pub record IsSafe (new : Telling) (from : Stage) (occurrences : List Occurrence)
   pub kept : new.keeps (from.text ++ texts_given answered)
 
 -- from whatever state mirrored the log before, the cache was led to one at rest, as far as records can be numbered
-abbrev pub IsLeftAtRest : Stage → List StepResult → Cache → Type 0
+abbrev pub IsLeftAtRest : DriveStage → List StepResult → Cache → Type 0
 IsLeftAtRest from results cache = (room : ℕ) (settings : CoreSettings) (s : State) (h : History) → AreGood settings → StandsFor settings from.cache s → Agrees s h
     → s.numbers.records + length (records_given results) ≤ greatest_number → Mirrors room s from.log → (state : State) × StandsFor settings cache state × IsAtRest state
 
 -- all is served: clients may have seen all that has passed, all records stand for good, and nothing is open
-pub record Ends (most : ℕ) (new : Telling) (from : Stage) (cache : Cache) : Type 0 where
+pub record Ends (most : ℕ) (new : Telling) (from : DriveStage) (cache : Cache) : Type 0 where
   pub rounds : AreRounds most new.tells new.holds from.cache cache from.log from.text
   pub shown : new.shows (passed rounds.occurrences rounds.results from.log)
   pub kept : new.keeps (from.text ++ texts_given rounds.results)
   pub rests : IsLeftAtRest from rounds.results cache
 
 -- not all is: what clients have seen is safe, if what they had seen before was
-pub record Breaks (most : ℕ) (was_safe : Type 0) (why : DriveFault) (new : Telling) (from : Stage) (cache : Cache) : Type 0 where
+pub record Breaks (most : ℕ) (was_safe : Type 0) (why : DriveFault) (new : Telling) (from : DriveStage) (cache : Cache) : Type 0 where
   pub cut : CutOff most why new from cache
   pub safe : was_safe → IsSafe new from cut.occurrences cut.results
 
-abbrev pub GivesCrowd : {T : Type 0} → ℕ → Type 0 → Result T DriveFault → Telling → Stage → Cache → Type 0
+abbrev pub GivesCrowd : {T : Type 0} → ℕ → Type 0 → Result T DriveFault → Telling → DriveStage → Cache → Type 0
 GivesCrowd most was_safe (Ok done) new from cache = Ends most new from cache
 GivesCrowd most was_safe (Err why) new from cache = Breaks most was_safe why new from cache
 

@@ -3,7 +3,7 @@ use Rattle.std.specs.Prelude.{◌≡◌, ◌⊎◌, ℕ, ◌+◌, ◌-◌, ◌^�
 use Rattle.std.specs.List.{flat_map}
 use Rattle.hc_transcript.specs.Limits.{greatest_number}
 use Rattle.hc_transcript.specs.Records.{record_text}
-use Rattle.hc_events.specs.declared.Event.{Event}
+use Rattle.hc_service.specs.declared.event.Event.{Event}
 use Rattle.hc_service.specs.declared.fault.StepFault.TheVariants.{Failed}
 use Rattle.hc_service.specs.declared.settings.CoreSettings.{CoreSettings}
 use Rattle.hc_service.specs.Agreement.{Agrees, History}
@@ -11,8 +11,8 @@ use Rattle.hc_service.specs.Runs.{Runs, StepResult, records_given}
 use Rattle.hc_service.specs.Sending.{recorded_format}
 use Rattle.hc_service.specs.Settings.{AreGood}
 use Rattle.hc_service.specs.State.{State}
-use Rattle.hc_machine.specs.Steps.{Cache, StandsFor}
-use Rattle.hc_link_traits.specs.Links.{CountsFailure}
+use Rattle.hc_core.specs.Steps.{Cache, StandsFor}
+use Rattle.hc_links.specs.Links.{CountsFailure}
 use Rattle.hc_connection.specs.Moves.{first_in}
 use Rattle.hc_order.specs.declared.occurrence.Occurrence.{Occurrence}
 use Rattle.hc_order.specs.Log.{Move}

@@ -2,11 +2,11 @@
 
 ghost use Rattle.hc_drive.specs.Rounds.{awaited_by, background_by, clients_by, held_by, needed_by};
 
-use hc_events::{Incident, Stock};
+use hc_core::Core;
 use hc_head::Target;
-use hc_link_traits::Awaiting;
-use hc_machine::Core;
+use hc_links::Awaiting;
 use hc_order::Receiver;
+use hc_service::{Incident, Stock};
 use std::alloc::AllocError;
 use std::hash::BuildHasher;
 

@@ -2,12 +2,12 @@
 
 ghost use Rattle.std.specs.Prelude.{ℕ, List, [], ◌∷◌, IfErr};
 ghost use Rattle.hc_order.specs.Log.{Move};
-ghost use Rattle.hc_link_traits.specs.Keeping.{KeepsLinks, KeepsRecorder};
+ghost use Rattle.hc_links.specs.Keeping.{KeepsLinks, KeepsRecorder};
 ghost use Rattle.hc_drive.specs.Carrying.{CountsRecorder, GivesDone, IsOfCarrying};
 
 use crate::fault::DriveFault;
 use crate::recorder::record;
-use hc_link_traits::{Link, Links};
+use hc_links::{Link, Links};
 use hc_order::Receiver;
 use hc_service::Action;
 use std::alloc::Global;

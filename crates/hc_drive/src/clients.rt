@@ -6,32 +6,42 @@ ghost use Rattle.hc_service.specs.declared.settings.CoreSettings.{CoreSettings};
 ghost use Rattle.hc_service.specs.Sending.{recorded_format};
 ghost use Rattle.hc_service.specs.Settings.{AreGood};
 ghost use Rattle.hc_service.specs.State.{new_state};
-ghost use Rattle.hc_machine.specs.Steps.{StandsFor};
-ghost use Rattle.hc_link_traits.specs.Keeping.{KeepsRecorder};
+ghost use Rattle.hc_core.specs.Steps.{StandsFor};
+ghost use Rattle.hc_links.specs.Keeping.{KeepsRecorder};
 ghost use Rattle.hc_drive.specs.Clients.{ComeSince, CountsServing, GivesNext, GivesServing, GivesTranscript, KeepsIdle, LeftSince};
 
 use crate::fault::{DriveFault, ServingFault};
 use crate::serving::serve_connection;
 use hc_connection::Connection;
-use hc_link_traits::{Clients, Clock, Link, Origins};
-use hc_machine::Core;
+use hc_core::Core;
+use hc_links::{Clients, Clock, Link, Origins};
 use hc_order::a_new_cache_mirrors_what_is_before;
 use hc_service::{new_cache_agrees, runs_are_judged_right, runs_go_on};
 use std::alloc::Global;
 use std::hash::BuildHasher;
+
+/// What clients are served by, beside a cache and its recorder.
+#[derive(Clone, Copy)]
+pub struct Surroundings<'a, O, K> {
+    /// It opens links to the origin.
+    pub origins: &'a O,
+    /// It tells the time.
+    pub clock: &'a K,
+}
 
 /// Serves the connection of that number of the next client, and hands its link back.
 fn serve_next<S: BuildHasher, A: Clients, O: Origins, K: Clock, R: Link>(
     alloc: Global,
     core: &mut Core<S>,
     clients: &mut A,
-    origins: &O,
-    clock: &K,
+    surroundings: &Surroundings<'_, O, K>,
     recorder: &mut R,
     number: u64,
 ) -> Result<(), ServingFault>
     ensures serves { (text : List ℕ) → R.has_got recorder.old text
-        → GivesNext (K.may_tell clock.now) (ComeSince (A.came clients.old) (A.came clients.new)) (LeftSince (A.left clients.old) (A.left clients.new))
+        → GivesNext (K.may_tell surroundings.now.clock.now)
+        (ComeSince (A.came clients.old) (A.came clients.new))
+        (LeftSince (A.left clients.old) (A.left clients.new))
         (R.has_got recorder.new) result number core.old core.new text }
     ensures idle { KeepsIdle result core.old core.new }
     ensures count { CountsServing result (R.count recorder.old) (R.count recorder.new) }
@@ -40,6 +50,7 @@ fn serve_next<S: BuildHasher, A: Clients, O: Origins, K: Clock, R: Link>(
     let Ok(client) = clients.next() else {
         return Err(ServingFault::Clients);
     };
+    let Surroundings { origins, clock } = *surroundings;
     let mut connection = Connection::new(alloc, number, client, origins, clock);
     match serve_connection(alloc, core, &mut connection, recorder) {
         Ok(()) => {
@@ -71,15 +82,16 @@ pub fn serve_clients<S: BuildHasher, A: Clients, O: Origins, K: Clock, R: Link>(
     alloc: Global,
     core: &mut Core<S>,
     clients: &mut A,
-    origins: &O,
-    clock: &K,
+    surroundings: &Surroundings<'_, O, K>,
     recorder: &mut R,
     count: u64,
 ) -> Result<(), ServingFault>
     ensures transcript { (settings : CoreSettings) → AreGood settings → StandsFor settings core.old (new_state settings)
         → R.has_got recorder.old (opening recorded_format) → GivesTranscript (R.has_got recorder.new) result }
     ensures serves { (text : List ℕ) → R.has_got recorder.old text
-        → GivesServing (K.may_tell clock.now) (ComeSince (A.came clients.old) (A.came clients.new)) (LeftSince (A.left clients.old) (A.left clients.new))
+        → GivesServing (K.may_tell surroundings.now.clock.now)
+        (ComeSince (A.came clients.old) (A.came clients.new))
+        (LeftSince (A.left clients.old) (A.left clients.new))
         (R.has_got recorder.new) result count core.old core.new text }
     ensures idle { KeepsIdle result core.old core.new }
     ensures count { CountsServing result (R.count recorder.old) (R.count recorder.new) }
@@ -91,7 +103,7 @@ pub fn serve_clients<S: BuildHasher, A: Clients, O: Origins, K: Clock, R: Link>(
     new_cache_agrees();
     a_new_cache_mirrors_what_is_before();
     'connections: for served in 0..count {
-        serve_next(alloc, core, clients, origins, clock, recorder, served + 1)?;
+        serve_next(alloc, core, clients, surroundings, recorder, served + 1)?;
     }
     Ok(())
 }

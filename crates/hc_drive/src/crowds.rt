@@ -7,9 +7,9 @@ ghost use Rattle.hc_service.specs.declared.settings.CoreSettings.{CoreSettings};
 ghost use Rattle.hc_service.specs.Sending.{recorded_format};
 ghost use Rattle.hc_service.specs.Settings.{AreGood};
 ghost use Rattle.hc_service.specs.State.{new_state_with};
-ghost use Rattle.hc_machine.specs.Steps.{StandsFor};
+ghost use Rattle.hc_core.specs.Steps.{StandsFor};
 ghost use Rattle.hc_order.specs.Log.{Move};
-ghost use Rattle.hc_link_traits.specs.Keeping.{KeepsLimits, KeepsRecorder};
+ghost use Rattle.hc_links.specs.Keeping.{KeepsLimits, KeepsRecorder};
 ghost use Rattle.hc_drive.specs.Carrying.{CountsRecorder, IsOfCarrying};
 ghost use Rattle.hc_drive.specs.Crowds.{GivesCrowd, GivesPause, GivesRecording, stage, telling};
 
@@ -18,8 +18,8 @@ use crate::fault::DriveFault;
 use crate::recorder::flush;
 use crate::rounds::round;
 use crate::watcher::Watcher;
-use hc_link_traits::{Batches, Recorder};
-use hc_machine::Core;
+use hc_core::Core;
+use hc_links::{Batches, Recorder};
 use hc_order::{a_new_cache_mirrors_what_is_before, what_may_happen_in_turn_is_served};
 use hc_service::{
     StepFault, agreement_is_ready, new_cache_agrees, runs_are_judged_right, runs_go_on,
@@ -28,8 +28,8 @@ use hc_service::{
 use std::alloc::Global;
 use std::hash::BuildHasher;
 
-/// Behind a batch its records are kept for good, then what is owed leaves, all is looked at, and the next batch is waited
-/// for. Answers whether all is served.
+/// Behind a batch its records are kept for good, then what is owed leaves, all is looked at, and the next
+/// batch is waited for. Returns whether all is served.
 fn pause<S: BuildHasher, L: Batches, R: Recorder, V: Watcher<L, R>>(
     core: &Core<S>,
     links: &mut L,

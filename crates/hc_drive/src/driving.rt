@@ -2,15 +2,15 @@
 
 ghost use Rattle.std.specs.Prelude.{ℕ, List, IfOk};
 ghost use Rattle.hc_order.specs.Log.{Move};
-ghost use Rattle.hc_link_traits.specs.Keeping.{KeepsLinks, KeepsRecorder};
+ghost use Rattle.hc_links.specs.Keeping.{KeepsLinks, KeepsRecorder};
 ghost use Rattle.hc_drive.specs.Carrying.{CountsRecorder};
 ghost use Rattle.hc_drive.specs.Drives.{GivesDrive};
 
 use crate::fault::DriveFault;
 use crate::rounds::round;
 use crate::watcher::Unwatched;
-use hc_link_traits::{Link, Links};
-use hc_machine::Core;
+use hc_core::Core;
+use hc_links::{Link, Links};
 use hc_order::what_may_happen_in_turn_is_served;
 use hc_service::{StepFault, agreement_is_ready, runs_go_on, runs_keep_agreement, steps_are_runs};
 use std::alloc::Global;

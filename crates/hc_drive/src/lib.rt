@@ -13,11 +13,11 @@ mod rounds;
 mod serving;
 mod watcher;
 
-pub use clients::serve_clients;
+pub use clients::{Surroundings, serve_clients};
 pub use crowds::serve_crowd;
 pub use driving::drive;
 pub use fault::{DriveFault, ServingFault};
-pub use hc_link_traits::{Clock, Link, Origins};
+pub use hc_links::{Clock, Link, Origins};
 pub use hc_scripts::replay;
 pub use serving::serve_connection;
 pub use watcher::{Unwatched, Watcher};

@@ -3,11 +3,11 @@
 ghost use Rattle.std.specs.Prelude.{◌++◌, ◌∷◌, [], ℕ, List, IfErr, OnOk};
 ghost use Rattle.hc_transcript.specs.Records.{record_text};
 ghost use Rattle.hc_service.specs.Sending.{recorded_format};
-ghost use Rattle.hc_link_traits.specs.Keeping.{KeepsRecorder};
+ghost use Rattle.hc_links.specs.Keeping.{KeepsRecorder};
 ghost use Rattle.hc_drive.specs.Carrying.{CountsRecorder, IsOfCarrying, WritesRecord};
 
 use crate::fault::DriveFault;
-use hc_link_traits::{Link, LinkFailure, Recorder, send_octets};
+use hc_links::{Link, LinkFailure, Recorder, send_octets};
 use hc_transcript::{Format, Record, record_parts};
 use std::alloc::Global;
 

@@ -2,7 +2,7 @@
 
 ghost use Rattle.std.specs.Prelude.{◌≡◌, ℕ, List, Ok, false};
 ghost use Rattle.hc_order.specs.Log.{Move};
-ghost use Rattle.hc_link_traits.specs.Keeping.{KeepsLinks, KeepsRecorder};
+ghost use Rattle.hc_links.specs.Keeping.{KeepsLinks, KeepsRecorder};
 ghost use Rattle.hc_drive.specs.Carrying.{CountsRecorder};
 ghost use Rattle.hc_drive.specs.Rounds.{GivesRound, awaited_by};
 
@@ -10,12 +10,12 @@ use crate::asked::Asked;
 use crate::carrying::carry_out;
 use crate::fault::DriveFault;
 use crate::watcher::Watcher;
-use hc_link_traits::{Link, Links};
-use hc_machine::Core;
+use hc_core::Core;
+use hc_links::{Link, Links};
 use std::alloc::Global;
 use std::hash::BuildHasher;
 
-/// One round. Answers whether something happened.
+/// One round. Returns whether something happened.
 pub(crate) fn round<S: BuildHasher, L: Links, R: Link, V: Watcher<L, R>>(
     alloc: Global,
     core: &mut Core<S>,

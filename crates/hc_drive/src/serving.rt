@@ -4,21 +4,22 @@ ghost use Rattle.std.specs.Prelude.{ℕ, List, length};
 ghost use Rattle.hc_connection.specs.Connections.{HasPassed};
 ghost use Rattle.hc_order.specs.Log.{Move};
 ghost use Rattle.hc_connection.specs.Sides.{Rests};
-ghost use Rattle.hc_link_traits.specs.Keeping.{KeepsRecorder};
+ghost use Rattle.hc_links.specs.Keeping.{KeepsRecorder};
 ghost use Rattle.hc_drive.specs.Drives.{CountsServed, GivesDrive, LeavesIdle, LeavesOpened, LeavesResting, SaysFailed};
 
 use crate::driving::drive;
 use crate::fault::DriveFault;
 use hc_connection::{Connection, a_connection_at_rest_leaves_a_cache_at_rest};
-use hc_link_traits::{Clock, Link, Origins};
-use hc_machine::Core;
+use hc_core::Core;
+use hc_links::{Clock, Link, Origins};
 use hc_order::what_may_happen_in_turn_is_served;
 use hc_service::StepFault;
 use std::alloc::Global;
 use std::hash::BuildHasher;
 
-/// Serves one connection to its end, and records that. What is told of a new one begins with its opening. Where it was served
-/// before, nothing more happens, and the answer tells again whether its client's link has failed.
+/// Serves one connection to its end, and records that. What is told of a new one begins with its opening.
+/// Where it was served before, nothing more happens, and the result tells again whether its client's link has
+/// failed.
 pub fn serve_connection<S: BuildHasher, C: Link, O: Origins, K: Clock, R: Link>(
     alloc: Global,
     core: &mut Core<S>,

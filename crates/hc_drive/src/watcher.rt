@@ -3,7 +3,7 @@
 ghost use Rattle.std.specs.Prelude.{◌≡◌};
 ghost use Rattle.std.proofs.Common.{refl, ◌∙◌};
 
-use hc_link_traits::Awaiting;
+use hc_links::Awaiting;
 use hc_order::Occurrence;
 use hc_service::Action;
 

@@ -11,8 +11,8 @@ struct Begun {
     value: Value,
 }
 
-/// A JSON object that is told its members, and objects and lists in it. Where memory is refused for one of them, there are no
-/// members: `into_members` answers that.
+/// A JSON object that is told its members, and objects and lists in it. Where memory is refused for one of
+/// them, there are no members: `into_members` returns that.
 #[derive(Drop)]
 pub(crate) struct NestedObject {
     alloc: Global,

@@ -68,3 +68,24 @@ other_behind name fields f other =
     values_append name fields (f ∷ [])
     ∙ ap (λ (vs : List (List ℕ)). values_of name fields ++ vs) (cond-false (bytes_eq f.name name) _ _ other)
     ∙ append-nil (values_of name fields)
+
+-- no line has a name that has no value
+pub no_value : (name : List ℕ) (fields : List Field) → values_of name fields ≡ [] → has_name name fields ≡ false
+no_value name [] e = refl
+no_value name (f ∷ fields) e = go (bytes_eq f.name name) (no_value name fields) e
+  where
+    go : (same : Bool) → (values_of name fields ≡ [] → has_name name fields ≡ false)
+        → cond same (f.value ∷ values_of name fields) (values_of name fields) ≡ [] → (same || has_name name fields) ≡ false
+    go true none e = absurd (cc)
+    go false none e = none e
+
+-- a line has a name that has a value
+pub some_value : (name : List ℕ) (fields : List Field) (value : List ℕ) (more : List (List ℕ)) → values_of name fields ≡ value ∷ more
+    → has_name name fields ≡ true
+some_value name [] value more e = absurd (cc)
+some_value name (f ∷ fields) value more e = go (bytes_eq f.name name) (some_value name fields value more) e
+  where
+    go : (same : Bool) → (values_of name fields ≡ value ∷ more → has_name name fields ≡ true)
+        → cond same (f.value ∷ values_of name fields) (values_of name fields) ≡ value ∷ more → (same || has_name name fields) ≡ true
+    go true some e = refl
+    go false some e = some e

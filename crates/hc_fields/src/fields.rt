@@ -218,11 +218,6 @@ impl<'a> Iterator for Values<'a> {
     ghost remaining = { item_count (λ s. values_of s.name.now s.lines) };
 
     fn next(&mut self) -> Option<&'a [u8]> {
-        while let Some((name, value)) = self.lines.pass() {
-            if name == self.name {
-                return Some(value);
-            }
-        }
-        None
+        self.lines.pass_to(self.name)
     }
 }

@@ -1,4 +1,5 @@
 ghost use Rattle.std.specs.Prelude.{◌≡◌, ◌==◌, ◌++◌, List, ℕ, [], length, nat_eq, refl, Some, IfOk, OnOk, OnErr};
+ghost use Rattle.std.specs.Str.{str_to_ascii_lowercase};
 ghost use Rattle.std.specs.Ordering.{nat_cmp};
 ghost use Rattle.std.specs.Cmp.Lexicographic.{pointwise, slice_cmp, nat_list_eq_equiv, nat_list_cmp_total, texts_ties, texts_po};
 ghost use Rattle.std.specs.Cmp.{partial_equiv_from_equiv};
@@ -90,6 +91,20 @@ impl Octets {
         ensures err { OnErr result (self.new ≡ self.old) }
     {
         self.bytes.extend_from_slice(more)
+    }
+
+    /// Drops all octets, and keeps the memory.
+    pub fn clear(&mut self)
+        ensures { self.new ≡ [] }
+    {
+        self.bytes.clear();
+    }
+
+    /// Makes each letter of ASCII a small one.
+    pub fn make_ascii_lowercase(&mut self)
+        ensures { self.new ≡ str_to_ascii_lowercase self.old }
+    {
+        self.bytes.as_mut_slice().make_ascii_lowercase();
     }
 
     /// The same octets in memory of their own.

@@ -1,9 +1,9 @@
 //! Field lines that are lent in one form, whoever keeps them.
 
-ghost use Rattle.std.specs.Prelude.{◌≡◌, ◌==◌, ◌++◌, List, [], ◌∷◌, IfOk, MatchOption, map, option_copied};
+ghost use Rattle.std.specs.Prelude.{◌≡◌, ◌==◌, ◌++◌, ℕ, List, [], ◌∷◌, IfOk, MatchOption, map, option_copied};
 ghost use Rattle.hc_fields.specs.declared.fields.Field.{Field};
 ghost use Rattle.hc_fields.specs.Values.{has_name, joined_values, line, only_value, values_of};
-ghost use Rattle.hc_fields.specs.Views.{piece};
+ghost use Rattle.hc_fields.specs.Views.{line_at, piece};
 
 use crate::fields::{Field, Fields, Values};
 use crate::octets::Octets;
@@ -51,7 +51,41 @@ pub fn piece(octets: &[u8], start: usize, len: usize) -> &[u8]
     piece
 }
 
+/// The value of the first of those lines that has the name, and the lines behind it.
+fn first_owned<'a>(mut lines: &'a [Field], name: &[u8]) -> Option<(&'a [u8], &'a [Field])>
+    ensures { MatchOption result (values_of name.now lines.entry.now ≡ [])
+        (λ p. values_of name.now lines.entry.now ≡ p.0.now ∷ values_of name.now p.1.now) }
+{
+    while let Some((first, behind)) = lines.split_first() {
+        if first.name.as_slice() == name {
+            return Some((first.value.as_slice(), behind));
+        }
+        lines = behind;
+    }
+    None
+}
+
+/// The first of those spans whose line has the name, and the spans behind it.
+fn first_lent<'a>(
+    mut spans: &'a [LineSpan],
+    names: &[u8],
+    name: &[u8],
+) -> Option<(LineSpan, &'a [LineSpan])>
+    ensures { (octets : List ℕ) → MatchOption result (values_of name.now (map (line_at names.now octets) spans.entry.now) ≡ [])
+        (λ p. values_of name.now (map (line_at names.now octets) spans.entry.now)
+        ≡ piece octets p.0.value_start p.0.value_len ∷ values_of name.now (map (line_at names.now octets) p.1.now)) }
+{
+    while let Some((span, behind)) = spans.split_first() {
+        if piece(names, span.name_start, span.name_len) == name {
+            return Some((*span, behind));
+        }
+        spans = behind;
+    }
+    None
+}
+
 impl<'a> FieldsView<'a> {
+    ghost use Rattle.std.specs.Prelude.{None};
     ghost use Rattle.hc_fields.specs.Views.{line_at};
 
     /// Lines that lie in octets.
@@ -108,17 +142,33 @@ impl<'a> FieldsView<'a> {
         Some((name, value))
     }
 
+    /// The value of the first line of that name: it is passed over, and those before it are, or all where none has
+    /// the name. No octet of another value is looked at. The name is one in lower case.
+    #[tactic(auto, using(crate::proofs::UpdateLemmas::values_append))]
+    pub fn pass_to(&mut self, name: &[u8]) -> Option<&'a [u8]>
+        ensures { MatchOption result ((values_of name.now self.old ≡ []) × (self.new ≡ []))
+            (λ v. values_of name.now self.old ≡ v.now ∷ values_of name.now self.new) }
+    {
+        let octets = self.octets;
+        if let Some((value, behind)) = first_owned(self.owned, name) {
+            self.owned = behind;
+            return Some(value);
+        }
+        self.owned = &[];
+        let Some((span, behind)) = first_lent(self.spans, self.names, name) else {
+            self.spans = &[];
+            return None;
+        };
+        self.spans = behind;
+        Some(piece(octets, span.value_start, span.value_len))
+    }
+
     /// Whether there is a line of that name.
+    #[tactic(auto, using(crate::proofs::ValueLemmas::no_value, crate::proofs::ValueLemmas::some_value))]
     pub fn contains(&self, name: &[u8]) -> bool
         ensures { result ≡ has_name name.now self.now }
     {
-        let mut rest = self.again();
-        while let Some((one, _)) = rest.pass() {
-            if one == name {
-                return true;
-            }
-        }
-        false
+        self.again().pass_to(name).is_some()
     }
 
     /// The values of the lines of that name, in order. The name is one in lower case.

@@ -10,8 +10,8 @@ ghost use Rattle.hc_figures.specs.Nesting.{MembersNestTo, NestsTo};
 use serde_json::{Map, Value, push, put};
 use std::alloc::{AllocError, Global};
 
-/// A JSON object that is told its members. Where memory is refused for one of them, the object is never given:
-/// `into_members`, `into_value` and `into_text` answer that.
+/// A JSON object that is told its members. Where memory is refused for one of them, the object is never
+/// given: `into_members`, `into_value` and `into_text` return that.
 pub struct Object {
     alloc: Global,
     members: Map<String, Value>,
@@ -141,7 +141,7 @@ impl Object {
     }
 }
 
-/// A JSON array that is told its values. Where memory is refused for one of them, `into_value` answers that.
+/// A JSON array that is told its values. Where memory is refused for one of them, `into_value` returns that.
 pub struct Array {
     values: Vec<Value>,
     is_refused: bool,

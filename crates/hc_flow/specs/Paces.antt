@@ -5,7 +5,7 @@ use Rattle.hc_flow.specs.declared.outbox.Emptying.TheVariants.{Emptied, Later, F
 use Rattle.hc_flow.specs.declared.pace.Pace.{Pace}
 use Rattle.hc_flow.specs.declared.pace.Pace.TheVariants.{Idle, Asking, Taking}
 use Rattle.hc_flow.specs.declared.patience.Patience.{Patience}
-use Rattle.hc_flow.specs.declared.progress.Progress.{Progress}
+use Rattle.hc_flow.specs.declared.progress.ForwardProgress.{ForwardProgress}
 
 -- ---- clients
 
@@ -64,22 +64,22 @@ written emptying before still tick pace = if before == 0 then pace else taken em
 -- ---- forwards
 
 -- behind that millisecond nothing has passed on its link for too long
-abbrev pub silent_due : Progress → Patience → ℕ
+abbrev pub silent_due : ForwardProgress → Patience → ℕ
 silent_due progress patience = progress.last + patience.origin_timeout
 
 -- behind that millisecond it has taken too long in all, from the first link that was begun for it
-abbrev pub total_due : Progress → Patience → ℕ
+abbrev pub total_due : ForwardProgress → Patience → ℕ
 total_due progress patience = progress.begun + patience.origin_total
 
 -- behind that millisecond its time is over
-abbrev pub forward_due : Progress → Patience → ℕ
+abbrev pub forward_due : ForwardProgress → Patience → ℕ
 forward_due progress patience = min (silent_due progress patience) (total_due progress patience)
 
 -- something passed on its link, or nothing
-abbrev pub moved : (passed : Bool) → ℕ → Progress → Progress
+abbrev pub moved : (passed : Bool) → ℕ → ForwardProgress → ForwardProgress
 moved passed tick progress = if passed then record progress { last = tick } else progress
 
 -- behind a write, where so many octets were owed before, and so many are still
-abbrev pub progress_written : Emptying → (before still tick : ℕ) → Progress → Progress
+abbrev pub progress_written : Emptying → (before still tick : ℕ) → ForwardProgress → ForwardProgress
 progress_written Failed before still tick progress = progress
 progress_written other before still tick progress = moved (nat_lt still before) tick progress

@@ -102,8 +102,8 @@ impl<S: Stream> Flow<S> {
         self.failed
     }
 
-    /// Whether a read may bring something now. Behind the end of what the other side sends it still may: a further read
-    /// answers the end again.
+    /// Whether a read may bring something now. Behind the end of what the other side sends it still may: a
+    /// further read returns the end again.
     pub fn is_readable(&self) -> bool
         ensures { result ≡ self.now.readable }
     {

@@ -17,7 +17,7 @@ pub use heard::{Heard, hear_flow, wants_turn};
 pub use outbox::{Emptying, Outbox};
 pub use pace::{Pace, a_look_comes_in_time};
 pub use patience::Patience;
-pub use progress::Progress;
+pub use progress::ForwardProgress;
 pub use readiness::Readiness;
 pub use stream::{Arrival, Presence, Stream, Uptake};
 pub use weight::weight_of;

@@ -106,8 +106,8 @@ fn drop_first(pieces: &mut VecDeque<Piece>, tail: &mut Vec<u8>)
     }
 }
 
-/// So many octets more of the first piece were written. It is dropped once all of them were. Answers how many of the
-/// first piece were written.
+/// So many octets more of the first piece were written. It is dropped once all of them were. Returns how many
+/// of the first piece were written.
 pub(crate) fn advance(
     pieces: &mut VecDeque<Piece>,
     tail: &mut Vec<u8>,

@@ -8,19 +8,19 @@ use crate::patience::Patience;
 
 /// How a forward is getting on, in milliseconds.
 #[derive(Clone, Copy)]
-pub struct Progress {
+pub struct ForwardProgress {
     /// When the first link was begun for it.
     begun: u64,
     /// When an octet last passed at its link, or that was begun.
     last: u64,
 }
 
-impl Progress {
+impl ForwardProgress {
     /// Where a link is begun, and the first one was begun then.
     pub fn new(begun: u64, tick: u64) -> Self
         ensures { result ≡ record { begun = begun; last = tick } }
     {
-        Progress { begun, last: tick }
+        ForwardProgress { begun, last: tick }
     }
 
     /// Something passed then, or nothing.
@@ -28,7 +28,7 @@ impl Progress {
         ensures { result ≡ moved passed tick self }
     {
         if passed {
-            Progress {
+            ForwardProgress {
                 begun: self.begun,
                 last: tick,
             }

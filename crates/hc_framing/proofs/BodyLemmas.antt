@@ -5,30 +5,30 @@ use Rattle.std.proofs.lemmas.List.{drop-append-le, take-append-drop, drop_all, t
 use Rattle.std.proofs.lemmas.List.Folds.{concat-append}
 use Rattle.hc_framing.specs.declared.fault.FrameFault.{FrameFault}
 use Rattle.hc_framing.specs.declared.fault.FrameFault.TheVariants.{Head, BothLengths, BadLength, BadCoding, BadChunk, BodyTooLong, Truncated, Memory, Failed}
-use Rattle.hc_chunks.specs.declared.fault.ChunkFault.{ChunkFault}
-use Rattle.hc_chunks.specs.declared.fault.ChunkFault.TheVariants as chunks
-use Rattle.hc_chunks.specs.declared.trailer.TrailerReader.{TrailerReader}
+use Rattle.hc_framing.specs.declared.chunk_fault.ChunkFault.{ChunkFault}
+use Rattle.hc_framing.specs.declared.chunk_fault.ChunkFault.TheVariants as chunks
+use Rattle.hc_framing.specs.declared.trailer.TrailerReader.{TrailerReader}
 use Rattle.hc_framing.specs.Names.{of_chunk}
 use Rattle.hc_framing.specs.declared.framing.Framing.{Framing}
 use Rattle.hc_framing.specs.declared.framing.Framing.TheVariants.{Nothing, Sized, Chunked, UntilClose}
-use Rattle.hc_framing.specs.declared.framing_reader.Stage.{Stage}
-use Rattle.hc_framing.specs.declared.framing_reader.Stage.TheVariants as at
+use Rattle.hc_framing.specs.declared.framing_reader.FramingStage.{FramingStage}
+use Rattle.hc_framing.specs.declared.framing_reader.FramingStage.TheVariants as at
 use Rattle.hc_framing.specs.declared.framing_reader.FramingReader.{FramingReader}
 use Rattle.hc_framing.specs.declared.framing_reader.Part.{Part}
 use Rattle.hc_framing.specs.declared.body.BodyReader.{BodyReader}
 use Rattle.std.proofs.Math.Seq.{take-add}
-use Rattle.hc_chunks.specs.ChunkLines.{BeginsChunkLine, NeverHasChunkLine}
-use Rattle.hc_chunks.specs.ChunkLineReading.{AgreesLine}
-use Rattle.hc_chunks.specs.Trailers.{IsTrailerThen, NeverHasTrailer, IsOpenTrailer}
-use Rattle.hc_chunks.specs.TrailerReading.{end_of, AgreesTrailer, GivesTrailer}
+use Rattle.hc_framing.specs.ChunkLines.{BeginsChunkLine, NeverHasChunkLine}
+use Rattle.hc_framing.specs.ChunkLineReading.{AgreesLine}
+use Rattle.hc_framing.specs.Trailers.{IsTrailerThen, NeverHasTrailer, IsOpenTrailer}
+use Rattle.hc_framing.specs.TrailerReading.{end_of, AgreesTrailer, GivesTrailer}
 use Rattle.hc_head.specs.Writable.{longest_body}
 use Rattle.hc_framing.specs.Chunks.{IsChunkThen, AreChunksThen, IsChunkedThen, NeverHasChunked, IsTooLong, OpenLine, OpenData, OpenTrailer, IsOpenChunked}
 use Rattle.std.specs.Prelude.{◌⊎◌}
 use Rattle.hc_framing.specs.Messages.{BeginsBody, BeginsChunked, IsWholeBody}
 use Rattle.hc_framing.specs.Bodies.{IsOpenBody, BreaksBody}
 use Rattle.hc_framing.specs.BodyReading.{AtLine, AtData, AtLineFeed, AtTrailer, AgreesAt, AgreesFraming, FaultsBody, GivesEnd, GivesPart, AgreesBody}
-use Rattle.hc_chunks.proofs.ChunkLineLemmas.{chunk_line-append, chunk_line_within, agrees_none, agrees_can}
-use Rattle.hc_chunks.proofs.ListLemmas.{tail_is, fronts}
+use Rattle.hc_framing.proofs.ChunkLineLemmas.{chunk_line-append, chunk_line_within, agrees_none, agrees_can}
+use Rattle.hc_framing.proofs.ListLemmas.{tail_is, fronts}
 use Rattle.hc_framing.proofs.ChunkLemmas.{chunks-append, chunks_more, BodyBehind, body_behind, begins_with_line, chunk_behind, trailer_behind, open_chunked_has_none, chunked_unique, chunked-append}
 
 -- ---- octets behind a line
@@ -261,14 +261,14 @@ trailer_ends r octets body piece used a within trailer =
 -- ---- the stage
 
 -- what the reader agrees with, by its stage
-pub at_stage : (framing : Framing) (r : FramingReader) (octets body : List ℕ) (stage : Stage) → r.stage ≡ stage → AgreesFraming framing r octets body
+pub at_stage : (framing : Framing) (r : FramingReader) (octets body : List ℕ) (stage : FramingStage) → r.stage ≡ stage → AgreesFraming framing r octets body
     → AgreesAt stage framing r octets body
-at_stage framing r octets body stage is agrees = subst (λ (s : Stage). AgreesAt s framing r octets body) is agrees
+at_stage framing r octets body stage is agrees = subst (λ (s : FramingStage). AgreesAt s framing r octets body) is agrees
 
 -- and the other way round
-pub in_stage : (framing : Framing) (r : FramingReader) (octets body : List ℕ) (stage : Stage) → r.stage ≡ stage → AgreesAt stage framing r octets body
+pub in_stage : (framing : Framing) (r : FramingReader) (octets body : List ℕ) (stage : FramingStage) → r.stage ≡ stage → AgreesAt stage framing r octets body
     → AgreesFraming framing r octets body
-in_stage framing r octets body stage is agrees = subst (λ (s : Stage). AgreesAt s framing r octets body) (sym is) agrees
+in_stage framing r octets body stage is agrees = subst (λ (s : FramingStage). AgreesAt s framing r octets body) (sym is) agrees
 
 -- data of a chunk, as much of it as was taken
 pub data_taken : (r s : FramingReader) (octets body piece : List ℕ) (taken : ℕ) → AtData r octets body → taken ≡ min (length piece) r.left → s.count ≡ r.count
@@ -353,7 +353,7 @@ framing_is_open framing r octets body agrees = go r.stage agrees
     chunked : (f : Framing) → f ≡ Chunked → IsOpenChunked octets → IsOpenBody f octets
     chunked f is o = subst (λ (g : Framing). IsOpenBody g octets) (sym is) o
 
-    go : (stage : Stage) → AgreesAt stage framing r octets body → IsOpenBody framing octets
+    go : (stage : FramingStage) → AgreesAt stage framing r octets body → IsOpenBody framing octets
     go at.Sized a = subst (λ (g : Framing). IsOpenBody g octets) (sym a.0) (omega (arith, a.1))
     go at.Line a = chunked framing a.0 (record {
       chunks = a.1.chunks;
@@ -473,7 +473,7 @@ pub framing_ends_whole : (frame : Framing) (r : FramingReader) (octets body : Li
 framing_ends_whole frame r octets body agrees is =
     subst (λ (f : Framing). IsWholeBody f octets body) (sym is) (go r.stage (subst (λ (f : Framing). AgreesFraming f r octets body) is agrees))
   where
-    go : (stage : Stage) → AgreesAt stage UntilClose r octets body → (body ≡ octets) × (length octets ≤ longest_body)
+    go : (stage : FramingStage) → AgreesAt stage UntilClose r octets body → (body ≡ octets) × (length octets ≤ longest_body)
     go at.Sized a = absurd (search (rules, a.0))
     go at.Line a = absurd (search (rules, a.0))
     go at.Data a = absurd (search (rules, a.0))

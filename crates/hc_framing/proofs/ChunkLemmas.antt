@@ -2,12 +2,12 @@
 use Rattle.std.proofs.Common.{◌≡◌, ℕ, ◌<◌, List, [], ◌∷◌, ◌++◌, length, drop, refl, sym, ap, subst, ◌∙◌, arith, append_assoc, append-nil, length-append, inl, inr}
 use Rattle.std.specs.List.{concat}
 use Rattle.std.proofs.lemmas.List.{drop-append-le}
-use Rattle.hc_chunks.specs.ChunkLines.{BeginsChunkLine}
-use Rattle.hc_chunks.specs.Trailers.{IsTrailerThen}
+use Rattle.hc_framing.specs.ChunkLines.{BeginsChunkLine}
+use Rattle.hc_framing.specs.Trailers.{IsTrailerThen}
 use Rattle.hc_framing.specs.Chunks.{IsChunkThen, AreChunksThen, IsChunkedThen, IsOpenPart, OpenLine, OpenData, OpenTrailer, IsOpenChunked}
-use Rattle.hc_chunks.proofs.ListLemmas.{tail_is, fronts}
-use Rattle.hc_chunks.proofs.ChunkLineLemmas.{chunk_line_unique, chunk_line-append, chunk_line_within}
-use Rattle.hc_chunks.proofs.TrailerLemmas.{trailer_unique, trailer-append, open_has_none}
+use Rattle.hc_framing.proofs.ListLemmas.{tail_is, fronts}
+use Rattle.hc_framing.proofs.ChunkLineLemmas.{chunk_line_unique, chunk_line-append, chunk_line_within}
+use Rattle.hc_framing.proofs.TrailerLemmas.{trailer_unique, trailer-append, open_has_none}
 
 -- ---- one chunk
 

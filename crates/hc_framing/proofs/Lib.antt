@@ -1,3 +1,6 @@
+pub mod ListLemmas
+pub mod ChunkLineLemmas
+pub mod TrailerLemmas
 pub mod ChunkLemmas
 pub mod BodyLemmas
 pub mod PieceLemmas

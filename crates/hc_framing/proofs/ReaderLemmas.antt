@@ -19,8 +19,8 @@ use Rattle.hc_framing.specs.declared.fault.FrameFault.TheVariants as faults
 use Rattle.hc_framing.specs.declared.framing.Framing.{Framing}
 use Rattle.hc_framing.specs.declared.framing.Framing.TheVariants.{UntilClose}
 use Rattle.hc_framing.specs.declared.reader.MessageReader.{MessageReader}
-use Rattle.hc_framing.specs.declared.reader.Stage.{Stage}
-use Rattle.hc_framing.specs.declared.reader.Stage.TheVariants as at
+use Rattle.hc_framing.specs.declared.reader.MessageStage.{MessageStage}
+use Rattle.hc_framing.specs.declared.reader.MessageStage.TheVariants as at
 use Rattle.hc_framing.specs.declared.progress.Progress.{Progress}
 use Rattle.hc_framing.specs.declared.progress.Progress.TheVariants.{More, Whole}
 use Rattle.hc_framing.specs.Forms.{Form, FormLaws}
@@ -255,7 +255,7 @@ module _ {H : Type 0} (form : Form H) (laws : FormLaws form) where
       let inside = laws.within octets head len begins.begins in (
         kind-is,
         room-is,
-        subst (λ (t : Stage). AgreesAt form t kind room s (octets ++ piece)) (sym stage-is) (record {
+        subst (λ (t : MessageStage). AgreesAt form t kind room s (octets ++ piece)) (sym stage-is) (record {
           head = head;
           len = len;
           begins = head_goes_on octets piece room head len begins;
@@ -272,7 +272,7 @@ module _ {H : Type 0} (form : Form H) (laws : FormLaws form) where
   feeds_body kind r s octets piece room result stage agrees feeds = go result feeds
     where
       k : KeepsBody form kind room r octets
-      k = subst (λ (t : Stage). AgreesAt form t kind room r octets) stage agrees.2
+      k = subst (λ (t : MessageStage). AgreesAt form t kind room r octets) stage agrees.2
 
       go : (result : Result Progress FrameFault) → FeedsBody result r s piece → FeedGives form result kind room s octets piece
       go (Ok More) f =
@@ -288,7 +288,7 @@ module _ {H : Type 0} (form : Form H) (laws : FormLaws form) where
 
   pub keeps_head : (kind : Kind) (r : MessageReader H) (octets : List ℕ) (room : Room) → r.stage ≡ at.Head → Agrees form kind room r octets
       → KeepsHead form room r octets
-  keeps_head kind r octets room stage agrees = subst (λ (t : Stage). AgreesAt form t kind room r octets) stage agrees.2
+  keeps_head kind r octets room stage agrees = subst (λ (t : MessageStage). AgreesAt form t kind room r octets) stage agrees.2
 
   -- the reader with what was looked at of the piece
   abbrev pub with_front : MessageReader H → Search → List ℕ → MessageReader H
@@ -327,7 +327,7 @@ module _ {H : Type 0} (form : Form H) (laws : FormLaws form) where
       let k = keeps kind room r q octets piece near rest most used p in (
         p.kind_is ∙ p.agrees.0,
         p.room_is ∙ p.agrees.1,
-        subst (λ (t : Stage). AgreesAt form t kind room q (octets ++ piece)) (sym (p.still ∙ p.stage_is))
+        subst (λ (t : MessageStage). AgreesAt form t kind room q (octets ++ piece)) (sym (p.still ∙ p.stage_is))
             (keeps_on r q room octets piece near most used k p.searches (room_left kind room r q octets piece near rest most used p) none p.start_is p.shown_is short),
       )
 
@@ -345,7 +345,7 @@ module _ {H : Type 0} (form : Form H) (laws : FormLaws form) where
       let kept = keeps_head kind q (octets ++ piece) room (p.still ∙ p.stage_is) on in (
         reads.0.kind_is ∙ on.0,
         reads.0.room_is ∙ on.1,
-        subst (λ (t : Stage). AgreesAt form t kind room s (octets ++ piece)) (sym (reads.0.stage_is ∙ p.still ∙ p.stage_is)) (record {
+        subst (λ (t : MessageStage). AgreesAt form t kind room s (octets ++ piece)) (sym (reads.0.stage_is ∙ p.still ∙ p.stage_is)) (record {
           start_is = reads.0.start_is ∙ kept.start_is;
           search_is = reads.0.search_is ∙ kept.search_is;
           none_yet = λ found. none (sym reads.0.search_is ∙ found);
@@ -503,7 +503,7 @@ module _ {H : Type 0} (form : Form H) (laws : FormLaws form) where
       → HasNoMessage form kind octets
   agreeing_has_none kind room r octets agrees = λ message len p. go r.stage agrees.2 message len p
     where
-      go : (stage : Stage) → AgreesAt form stage kind room r octets → (message : Message H) (len : ℕ) → BeginsMessage form kind octets message len → ⊥
+      go : (stage : MessageStage) → AgreesAt form stage kind room r octets → (message : Message H) (len : ℕ) → BeginsMessage form kind octets message len → ⊥
       go at.Head k message len p = no_head_before octets (λ found. k.none_yet (k.search_is ∙ found)) p.head p.head_len p.begins
       go at.Body k message len p =
           open_has_no_body k.frame (drop k.len octets) message.body p.body_len (body_is_open k.frame r.body (drop k.len octets) k.body)
@@ -521,7 +521,7 @@ module _ {H : Type 0} (form : Form H) (laws : FormLaws form) where
       → IsInTime form kind room octets
   agreeing_in_time kind room r octets agrees = go r.stage agrees.2
     where
-      go : (stage : Stage) → AgreesAt form stage kind room r octets → IsInTime form kind room octets
+      go : (stage : MessageStage) → AgreesAt form stage kind room r octets → IsInTime form kind room octets
       go at.Head k = inl (λ head len le begins. no_head_before octets (λ found. k.none_yet (k.search_is ∙ found)) head len begins, k.fits)
       go at.Body k = inr (record { head = k.head; len = k.len; begins = k.begins; frame = k.frame; framed = k.framed; is_open = body_is_open k.frame r.body (drop k.len octets) k.body })
       go at.End k = absurd k
@@ -606,7 +606,7 @@ module _ {H : Type 0} (form : Form H) (laws : FormLaws form) where
       → ((frame : Framing) (behind : List ℕ) → AgreesBody frame r.body behind → frame ≡ UntilClose)
       → s.stage ≡ at.End → s.head ≡ r.head → s.body.whole ≡ r.body.octets → EndsHere form kind room s octets
   closes kind room r s octets stage agrees until stage-is head-is body-is =
-      let k = subst (λ (t : Stage). AgreesAt form t kind room r octets) stage agrees.2 in
+      let k = subst (λ (t : MessageStage). AgreesAt form t kind room r octets) stage agrees.2 in
       record {
         message = record { head = form.without_framing k.head; body = r.body.octets };
         is = record {
@@ -629,7 +629,7 @@ module _ {H : Type 0} (form : Form H) (laws : FormLaws form) where
       → ((frame : Framing) (behind : List ℕ) → AgreesBody frame r.body behind → frame ≢ UntilClose)
       → StandsAtEnd form kind faults.Truncated octets room
   cut_in_body kind room r octets stage agrees until =
-      let k = subst (λ (t : Stage). AgreesAt form t kind room r octets) stage agrees.2 in
+      let k = subst (λ (t : MessageStage). AgreesAt form t kind room r octets) stage agrees.2 in
       inr (
         record { head = k.head; len = k.len; begins = k.begins; frame = k.frame; framed = k.framed; is_open = body_is_open k.frame r.body (drop k.len octets) k.body },
         until k.frame (drop k.len octets) k.body,
@@ -760,7 +760,7 @@ module _ {H : Type 0} (form : Form H) (laws : FormLaws form) where
       → ShowsHead form kind room octets r.head
   agreeing_shows kind room r octets agrees = go r.stage agrees.2
     where
-      go : (stage : Stage) → AgreesAt form stage kind room r octets → ShowsHead form kind room octets r.head
+      go : (stage : MessageStage) → AgreesAt form stage kind room r octets → ShowsHead form kind room octets r.head
       go at.Head k = shown_none kind room octets r.head k.no_head (λ other is. no_head_before octets (λ found. k.none_yet (k.search_is ∙ found)) is.head is.len is.begins.begins)
       go at.Body k = shown_some kind room octets k.head k.len k.frame r.head k.begins k.framed k.head_is
       go at.End k = absurd k
@@ -838,7 +838,7 @@ module _ {H : Type 0} (form : Form H) (laws : FormLaws form) where
       → Agrees form kind room r octets → FeedsBody (Err fault) r s piece
       → ShowsHeadAfter form (Err fault) kind room (octets ++ piece) s.head
   body_faulty_shows kind room r s octets piece fault stage agrees feeds =
-      let k = subst (λ (t : Stage). AgreesAt form t kind room r octets) stage agrees.2 in
+      let k = subst (λ (t : MessageStage). AgreesAt form t kind room r octets) stage agrees.2 in
       shows_after fault kind room (octets ++ piece) s.head (shown_some kind room (octets ++ piece) k.head k.len k.frame s.head (head_goes_on octets piece room k.head k.len k.begins) k.framed (feeds.0 ∙ k.head_is))
 
   pub body_shows : (r s : MessageReader H) (piece : List ℕ) (result : Result Progress FrameFault) → r.stage ≡ at.Body → FeedsBody result r s piece

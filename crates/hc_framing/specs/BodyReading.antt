@@ -5,16 +5,16 @@ use Rattle.hc_framing.specs.declared.fault.FrameFault.{FrameFault}
 use Rattle.hc_framing.specs.declared.fault.FrameFault.TheVariants.{Memory}
 use Rattle.hc_framing.specs.declared.framing.Framing.{Framing}
 use Rattle.hc_framing.specs.declared.framing.Framing.TheVariants.{Sized, Chunked, UntilClose}
-use Rattle.hc_framing.specs.declared.framing_reader.Stage.{Stage}
-use Rattle.hc_framing.specs.declared.framing_reader.Stage.TheVariants as at
+use Rattle.hc_framing.specs.declared.framing_reader.FramingStage.{FramingStage}
+use Rattle.hc_framing.specs.declared.framing_reader.FramingStage.TheVariants as at
 use Rattle.hc_framing.specs.declared.framing_reader.FramingReader.{FramingReader}
 use Rattle.hc_framing.specs.declared.framing_reader.Part.{Part}
 use Rattle.hc_framing.specs.declared.body.BodyReader.{BodyReader}
 use Rattle.hc_framing.specs.declared.progress.Progress.{Progress}
 use Rattle.hc_framing.specs.declared.progress.Progress.TheVariants.{More, Whole}
-use Rattle.hc_chunks.specs.ChunkLines.{BeginsChunkLine}
-use Rattle.hc_chunks.specs.ChunkLineReading.{AgreesLine}
-use Rattle.hc_chunks.specs.TrailerReading.{AgreesTrailer}
+use Rattle.hc_framing.specs.ChunkLines.{BeginsChunkLine}
+use Rattle.hc_framing.specs.ChunkLineReading.{AgreesLine}
+use Rattle.hc_framing.specs.TrailerReading.{AgreesTrailer}
 use Rattle.hc_head.specs.Writable.{longest_body}
 use Rattle.hc_framing.specs.Chunks.{AreChunksThen}
 use Rattle.hc_framing.specs.Messages.{BeginsBody}
@@ -72,7 +72,7 @@ pub record AtTrailer (r : FramingReader) (octets body : List ℕ) : Type 0 where
   pub trailer : AgreesTrailer r.trailer (drop len last)
 
 -- what it agrees with in each stage: the octets that it was given, and the body so far
-abbrev pub AgreesAt : Stage → Framing → FramingReader → List ℕ → List ℕ → Type 0
+abbrev pub AgreesAt : FramingStage → Framing → FramingReader → List ℕ → List ℕ → Type 0
 AgreesAt at.Sized framing r octets body = (framing ≡ Sized (length octets + r.left)) × (0 < r.left) × (body ≡ octets)
 AgreesAt at.Line framing r octets body = (framing ≡ Chunked) × AtLine r octets body
 AgreesAt at.Data framing r octets body = (framing ≡ Chunked) × (0 < r.left) × AtData r octets body

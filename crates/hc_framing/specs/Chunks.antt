@@ -2,8 +2,8 @@
 use Rattle.std.specs.Prelude.{◌≡◌, ℕ, ◌+◌, ◌<◌, ◌≤◌, ◌⊎◌, List, [], ◌∷◌, ◌++◌, length, drop}
 use Rattle.std.specs.List.{concat}
 use Rattle.hc_head.specs.Writable.{longest_body}
-use Rattle.hc_chunks.specs.ChunkLines.{BeginsChunkLine, CanBecomeChunkLine, HasNoChunkLine}
-use Rattle.hc_chunks.specs.Trailers.{IsTrailerThen, IsOpenTrailer}
+use Rattle.hc_framing.specs.ChunkLines.{BeginsChunkLine, CanBecomeChunkLine, HasNoChunkLine}
+use Rattle.hc_framing.specs.Trailers.{IsTrailerThen, IsOpenTrailer}
 
 -- the octets are a chunk of that data, and then rest
 pub record IsChunkThen (octets chunk rest : List ℕ) : Type 0 where

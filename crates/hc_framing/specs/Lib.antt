@@ -1,3 +1,7 @@
+pub mod ChunkLines
+pub mod ChunkLineReading
+pub mod Trailers
+pub mod TrailerReading
 pub mod Names
 pub mod Chunks
 pub mod Framing

@@ -1,7 +1,7 @@
 -- The numbers and the names of the faults of a message.
 use Rattle.std.specs.Prelude.{ℕ, List, codes}
-use Rattle.hc_chunks.specs.declared.fault.ChunkFault.{ChunkFault}
-use Rattle.hc_chunks.specs.declared.fault.ChunkFault.TheVariants as chunks
+use Rattle.hc_framing.specs.declared.chunk_fault.ChunkFault.{ChunkFault}
+use Rattle.hc_framing.specs.declared.chunk_fault.ChunkFault.TheVariants as chunks
 use Rattle.hc_framing.specs.declared.fault.FrameFault.{FrameFault}
 use Rattle.hc_framing.specs.declared.fault.FrameFault.TheVariants.{Head, BothLengths, BadLength, BadCoding, BadChunk, BodyTooLong, Truncated, Memory, Failed}
 

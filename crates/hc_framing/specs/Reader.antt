@@ -10,8 +10,8 @@ use Rattle.hc_framing.specs.declared.fault.FrameFault.{FrameFault}
 use Rattle.hc_framing.specs.declared.fault.FrameFault.TheVariants as faults
 use Rattle.hc_framing.specs.declared.framing.Framing.{Framing}
 use Rattle.hc_framing.specs.declared.reader.MessageReader.{MessageReader}
-use Rattle.hc_framing.specs.declared.reader.Stage.{Stage}
-use Rattle.hc_framing.specs.declared.reader.Stage.TheVariants.{Head, Body, End, Failed}
+use Rattle.hc_framing.specs.declared.reader.MessageStage.{MessageStage}
+use Rattle.hc_framing.specs.declared.reader.MessageStage.TheVariants.{Head, Body, End, Failed}
 use Rattle.hc_framing.specs.declared.progress.Progress.{Progress}
 use Rattle.hc_framing.specs.declared.progress.Progress.TheVariants.{More, Whole}
 use Rattle.hc_framing.specs.Forms.{Form}
@@ -56,7 +56,7 @@ module _ {H : Type 0} (form : Form H) where
     pub head_is : r.head ≡ Some (form.without_framing head)
     pub body : AgreesBody frame r.body (drop len octets)
 
-  abbrev pub AgreesAt : Stage → Kind → Room → MessageReader H → List ℕ → Type 0
+  abbrev pub AgreesAt : MessageStage → Kind → Room → MessageReader H → List ℕ → Type 0
   AgreesAt Head kind room r octets = KeepsHead room r octets
   AgreesAt Body kind room r octets = KeepsBody kind room r octets
   AgreesAt End kind room r octets = ⊥

@@ -9,7 +9,7 @@ use Rattle.hc_framing.specs.declared.fault.FrameFault.TheVariants as faults
 use Rattle.hc_framing.specs.declared.framing.Framing.{Framing}
 use Rattle.hc_framing.specs.declared.framing.Framing.TheVariants.{UntilClose}
 use Rattle.hc_framing.specs.declared.reader.MessageReader.{MessageReader}
-use Rattle.hc_framing.specs.declared.reader.Stage.TheVariants.{Body, End}
+use Rattle.hc_framing.specs.declared.reader.MessageStage.TheVariants.{Body, End}
 use Rattle.hc_framing.specs.declared.progress.Progress.{Progress}
 use Rattle.hc_framing.specs.declared.progress.Progress.TheVariants.{More, Whole}
 use Rattle.hc_framing.specs.Forms.{Form}

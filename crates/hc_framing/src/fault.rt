@@ -4,7 +4,7 @@ ghost use Rattle.std.specs.Prelude.{◌≡◌};
 ghost use Rattle.hc_framing.specs.declared.fault.FrameFault.TheVariants.{Memory};
 ghost use Rattle.hc_framing.specs.Names.{of_chunk};
 
-use hc_chunks::ChunkFault;
+use crate::chunk_fault::ChunkFault;
 use hc_head::HeadFault;
 use std::alloc::AllocError;
 use thiserror::Error;
@@ -39,7 +39,7 @@ pub enum FrameFault {
     /// Memory was refused.
     #[error("out of memory")]
     Memory,
-    /// The reader answered a fault before, and reads no more.
+    /// The reader returned a fault before, and reads no more.
     #[error("a fault was met before")]
     Failed,
 }

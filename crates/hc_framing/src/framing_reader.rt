@@ -2,15 +2,16 @@
 
 ghost use Rattle.std.specs.Prelude.{◌≡◌, false};
 
+use crate::chunk_line::ChunkLineReader;
 use crate::fault::FrameFault;
 use crate::framing::Framing;
-use hc_chunks::{ChunkLineReader, TrailerReader};
+use crate::trailer::TrailerReader;
 use hc_head::LONGEST_BODY;
 use std::alloc::Global;
 
 /// What comes next in a body.
 #[derive(Clone, Copy, PartialEq, Eq)]
-enum Stage {
+enum FramingStage {
     /// Octets of a body whose length is known.
     Sized,
     /// The line of a chunk.
@@ -52,7 +53,7 @@ fn framing_octets(used: usize) -> Part
 /// Reads the framing of a body that comes in pieces. It keeps no octets of the body.
 pub(crate) struct FramingReader {
     alloc: Global,
-    stage: Stage,
+    stage: FramingStage,
     /// How many octets are to come, of the body or of the chunk's data.
     left: usize,
     /// How many octets the chunks have so far, as their lines say, or have come until the close.
@@ -85,10 +86,10 @@ impl FramingReader {
         ensures { has_octets framing ≡ true → AgreesFraming framing result [] [] }
     {
         let (stage, left) = match framing {
-            Framing::Nothing => (Stage::Sized, 0),
-            Framing::Sized(size) => (Stage::Sized, size as usize),
-            Framing::Chunked => (Stage::Line, 0),
-            Framing::UntilClose => (Stage::UntilClose, 0),
+            Framing::Nothing => (FramingStage::Sized, 0),
+            Framing::Sized(size) => (FramingStage::Sized, size as usize),
+            Framing::Chunked => (FramingStage::Line, 0),
+            Framing::UntilClose => (FramingStage::UntilClose, 0),
         };
         FramingReader {
             alloc,
@@ -107,7 +108,7 @@ impl FramingReader {
         ensures no { result ≡ false → (framing : Framing) (octets body : List ℕ)
             → AgreesFraming framing self.now octets body → framing ≢ Framing.UntilClose }
     {
-        self.stage == Stage::UntilClose
+        self.stage == FramingStage::UntilClose
     }
 
     /// Takes what the piece has of one part of the body.
@@ -118,18 +119,18 @@ impl FramingReader {
             → GivesPart result framing self.new octets body piece.now }
     {
         match self.stage {
-            Stage::Sized => Ok(self.take_sized(piece)),
-            Stage::Line => self.take_line(piece),
-            Stage::Data => Ok(self.take_data(piece)),
-            Stage::CarriageReturn => self.take_carriage_return(piece),
-            Stage::LineFeed => self.take_line_feed(piece),
-            Stage::Trailer => self.take_trailer(piece),
-            Stage::UntilClose => self.take_until_close(piece),
+            FramingStage::Sized => Ok(self.take_sized(piece)),
+            FramingStage::Line => self.take_line(piece),
+            FramingStage::Data => Ok(self.take_data(piece)),
+            FramingStage::CarriageReturn => self.take_carriage_return(piece),
+            FramingStage::LineFeed => self.take_line_feed(piece),
+            FramingStage::Trailer => self.take_trailer(piece),
+            FramingStage::UntilClose => self.take_until_close(piece),
         }
     }
 
     fn take_sized(&mut self, piece: &[u8]) -> Part
-        requires stage { self.old.stage ≡ Stage.Sized }
+        requires stage { self.old.stage ≡ FramingStage.Sized }
         requires some { 0 < length piece.now }
         ensures { (framing : Framing) (octets body : List ℕ) → AgreesFraming framing self.old octets body
             → GivesPart (Ok result) framing self.new octets body piece.now }
@@ -144,7 +145,7 @@ impl FramingReader {
     }
 
     fn take_line(&mut self, piece: &[u8]) -> Result<Part, FrameFault>
-        requires stage { self.old.stage ≡ Stage.Line }
+        requires stage { self.old.stage ≡ FramingStage.Line }
         requires some { 0 < length piece.now }
         ensures { (framing : Framing) (octets body : List ℕ) → AgreesFraming framing self.old octets body
             → GivesPart result framing self.new octets body piece.now }
@@ -155,7 +156,7 @@ impl FramingReader {
             Ok(Some((size, used))) => {
                 if size == 0 {
                     self.trailer = TrailerReader::new(self.alloc);
-                    self.stage = Stage::Trailer;
+                    self.stage = FramingStage::Trailer;
                     return Ok(framing_octets(used));
                 }
                 if size > LONGEST_BODY.saturating_sub(self.count) as u64 {
@@ -163,14 +164,14 @@ impl FramingReader {
                 }
                 self.left = size as usize;
                 self.count += self.left;
-                self.stage = Stage::Data;
+                self.stage = FramingStage::Data;
                 Ok(framing_octets(used))
             }
         }
     }
 
     fn take_data(&mut self, piece: &[u8]) -> Part
-        requires stage { self.old.stage ≡ Stage.Data }
+        requires stage { self.old.stage ≡ FramingStage.Data }
         requires some { 0 < length piece.now }
         ensures { (framing : Framing) (octets body : List ℕ) → AgreesFraming framing self.old octets body
             → GivesPart (Ok result) framing self.new octets body piece.now }
@@ -178,7 +179,7 @@ impl FramingReader {
         let taken = piece.len().min(self.left);
         self.left -= taken;
         if self.left == 0 {
-            self.stage = Stage::CarriageReturn;
+            self.stage = FramingStage::CarriageReturn;
         }
         Part {
             used: taken,
@@ -188,7 +189,7 @@ impl FramingReader {
     }
 
     fn take_carriage_return(&mut self, piece: &[u8]) -> Result<Part, FrameFault>
-        requires stage { self.old.stage ≡ Stage.CarriageReturn }
+        requires stage { self.old.stage ≡ FramingStage.CarriageReturn }
         requires some { 0 < length piece.now }
         ensures { (framing : Framing) (octets body : List ℕ) → AgreesFraming framing self.old octets body
             → GivesPart result framing self.new octets body piece.now }
@@ -196,12 +197,12 @@ impl FramingReader {
         if piece[0] != b'\r' {
             return Err(FrameFault::BadChunk);
         }
-        self.stage = Stage::LineFeed;
+        self.stage = FramingStage::LineFeed;
         Ok(framing_octets(1))
     }
 
     fn take_line_feed(&mut self, piece: &[u8]) -> Result<Part, FrameFault>
-        requires stage { self.old.stage ≡ Stage.LineFeed }
+        requires stage { self.old.stage ≡ FramingStage.LineFeed }
         requires some { 0 < length piece.now }
         ensures { (framing : Framing) (octets body : List ℕ) → AgreesFraming framing self.old octets body
             → GivesPart result framing self.new octets body piece.now }
@@ -210,12 +211,12 @@ impl FramingReader {
             return Err(FrameFault::BadChunk);
         }
         self.line = ChunkLineReader::new();
-        self.stage = Stage::Line;
+        self.stage = FramingStage::Line;
         Ok(framing_octets(1))
     }
 
     fn take_trailer(&mut self, piece: &[u8]) -> Result<Part, FrameFault>
-        requires stage { self.old.stage ≡ Stage.Trailer }
+        requires stage { self.old.stage ≡ FramingStage.Trailer }
         requires some { 0 < length piece.now }
         ensures { (framing : Framing) (octets body : List ℕ) → AgreesFraming framing self.old octets body
             → GivesPart result framing self.new octets body piece.now }
@@ -232,7 +233,7 @@ impl FramingReader {
     }
 
     fn take_until_close(&mut self, piece: &[u8]) -> Result<Part, FrameFault>
-        requires stage { self.old.stage ≡ Stage.UntilClose }
+        requires stage { self.old.stage ≡ FramingStage.UntilClose }
         requires some { 0 < length piece.now }
         ensures { (framing : Framing) (octets body : List ℕ) → AgreesFraming framing self.old octets body
             → GivesPart result framing self.new octets body piece.now }

@@ -41,7 +41,7 @@ pub trait MessageHead: Drop {
 
     /// Reads the head that begins the octets, of which no more than the room are looked at.
     fn read(alloc: Global, bytes: &[u8], room: Room) -> Result<Step<Self>, HeadFault>
-        // Each answer stands only where it says so.
+        // Each result stands only where it says so.
         ensures gives { GivesHead form.begins form.field_count result bytes.now room }
         // A whole head is found, unless memory runs out.
         ensures found { (head : Self) (len : ℕ)
@@ -61,7 +61,7 @@ pub trait MessageHead: Drop {
 
     /// Finds where the head stands that begins the octets, of which no more than the room are looked at.
     fn find(places: &mut HeadPlaces, octets: &[u8], room: Room) -> Result<Option<usize>, HeadFault>
-        // Each answer stands only where it says so.
+        // Each result stands only where it says so.
         ensures gives { GivesHead form.begins form.field_count (told (at places.new octets.now) result) octets.now room }
         // More octets are wanted only where they can make a head.
         ensures unfinished { OnUnfinished (told (at places.new octets.now) result)

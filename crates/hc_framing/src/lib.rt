@@ -3,6 +3,8 @@
 
 mod body;
 mod body_view;
+mod chunk_fault;
+mod chunk_line;
 mod fault;
 mod framing;
 mod framing_reader;
@@ -14,6 +16,7 @@ mod places;
 mod progress;
 mod reader;
 mod text;
+mod trailer;
 mod whole;
 mod writing;
 

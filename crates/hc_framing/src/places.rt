@@ -67,7 +67,7 @@ impl Places {
     /// Finds where the parts stand of the request that the octets are, all of them, in the room of a recorded head.
     /// Octets after it are the fault `BadLength`. It copies nothing but names, in lower case.
     pub fn find_request(&mut self, octets: &[u8]) -> Result<(), FrameFault>
-        // Each answer stands only where it says so.
+        // Each result stands only where it says so.
         ensures gives { GivesRequest (noted result (request_at self.new octets.now)) octets.now Room.RECORDED }
         // What is a request is found, unless memory runs out.
         ensures found { (message : Message RequestHead) → IsWholeRequest octets.now Room.RECORDED message
@@ -78,7 +78,7 @@ impl Places {
 
     /// The same of a response; `to_head` tells whether it answers HEAD.
     pub fn find_response(&mut self, octets: &[u8], to_head: bool) -> Result<(), FrameFault>
-        // Each answer stands only where it says so.
+        // Each result stands only where it says so.
         ensures gives { GivesResponse to_head (noted result (response_at self.new octets.now)) octets.now Room.RECORDED }
         // What is a response is found, unless memory runs out.
         ensures found { (message : Message ResponseHead) → IsWholeResponse to_head octets.now Room.RECORDED message

@@ -15,14 +15,14 @@ use std::alloc::{AllocError, Global};
 
 /// What a reader waits for.
 #[derive(Clone, Copy, PartialEq, Eq)]
-enum Stage {
+enum MessageStage {
     /// The end of the head.
     Head,
     /// The end of the body.
     Body,
     /// Nothing: the message is whole.
     End,
-    /// Nothing: a fault was answered.
+    /// Nothing: a fault was returned.
     Failed,
 }
 
@@ -32,7 +32,7 @@ pub struct MessageReader<H> {
     alloc: Global,
     kind: Kind,
     room: Room,
-    stage: Stage,
+    stage: MessageStage,
     /// The octets of the head, while it isn't whole.
     start: Octets,
     /// How far they lead to the empty line that ends the head.
@@ -95,7 +95,7 @@ impl<H: MessageHead> MessageReader<H> {
             alloc,
             kind,
             room,
-            stage: Stage::Head,
+            stage: MessageStage::Head,
             start: Octets::new(alloc),
             search: Search::Blank,
             tried: 0,
@@ -138,7 +138,7 @@ impl<H: MessageHead> MessageReader<H> {
     /// Takes the next piece. Octets of it that follow the message are not taken.
     pub fn feed(&mut self, piece: &[u8]) -> Result<Progress, FrameFault>
         requires { CanFeed H.form self.old }
-        // Each answer stands only where it says so, whatever the pieces before were.
+        // Each result stands only where it says so, whatever the pieces before were.
         ensures gives { (kind : Kind) (room : Room) (octets : List ℕ)
             → Agrees H.form kind room self.old octets
             → FeedGives H.form result kind room self.new octets piece.now }
@@ -159,13 +159,13 @@ impl<H: MessageHead> MessageReader<H> {
         ensures head { (kind : Kind) (room : Room) (octets : List ℕ)
             → Agrees H.form kind room self.old octets
             → ShowsHeadAfter H.form result kind room (octets ++ piece.now) self.new.head }
-        // A head that is there stays, whatever the answer.
+        // A head that is there stays, whatever the result.
         ensures keeps { IsSome self.old.head → self.new.head ≡ self.old.head }
-        // It takes pieces until it has answered `Whole`.
+        // It takes pieces until it has returned `Whole`.
         ensures can { result ≡ Ok Progress.More
             → CanFeed H.form self.new }
         ensures has { OnWhole result (HasMessage self.new) }
-        // After a fault the reader answers `Failed` for ever.
+        // After a fault the reader returns `Failed` for ever.
         ensures fails { OnErr result (HasFailed self.new) }
         ensures failed { HasFailed self.old → result ≡ Err FrameFault.Failed }
         ensures stays { HasFailed self.old → self.new.head ≡ self.old.head }
@@ -173,7 +173,7 @@ impl<H: MessageHead> MessageReader<H> {
         match self.advance(piece) {
             Ok(progress) => Ok(progress),
             Err(fault) => {
-                self.stage = Stage::Failed;
+                self.stage = MessageStage::Failed;
                 Err(fault)
             }
         }
@@ -192,16 +192,16 @@ impl<H: MessageHead> MessageReader<H> {
         ensures stays { HasFailed self.old → self.new.head ≡ self.old.head }
     {
         match self.stage {
-            Stage::Head => self.feed_head(piece),
-            Stage::Body => self.feed_body(piece),
-            Stage::Failed => Err(FrameFault::Failed),
-            Stage::End => unreachable!(),
+            MessageStage::Head => self.feed_head(piece),
+            MessageStage::Body => self.feed_body(piece),
+            MessageStage::Failed => Err(FrameFault::Failed),
+            MessageStage::End => unreachable!(),
         }
     }
 
     /// Takes what the piece has of the head, and then of the body.
     fn feed_head(&mut self, piece: &[u8]) -> Result<Progress, FrameFault>
-        requires stage { self.old.stage ≡ Stage.Head }
+        requires stage { self.old.stage ≡ MessageStage.Head }
         requires agrees { IsAgreeing H.form self.old }
         ensures gives { (kind : Kind) (room : Room) (octets : List ℕ)
             → Agrees H.form kind room self.old octets
@@ -266,15 +266,15 @@ impl<H: MessageHead> MessageReader<H> {
         self.start = Octets::new(self.alloc);
         self.body = BodyReader::new(self.alloc, framing);
         if !has_octets(framing) {
-            self.stage = Stage::End;
+            self.stage = MessageStage::End;
             return Ok(Progress::Whole(0));
         }
-        self.stage = Stage::Body;
+        self.stage = MessageStage::Body;
         self.feed_body(piece)
     }
 
     fn feed_body(&mut self, piece: &[u8]) -> Result<Progress, FrameFault>
-        requires stage { self.old.stage ≡ Stage.Body }
+        requires stage { self.old.stage ≡ MessageStage.Body }
         requires reads { IsReading self.old.body }
         ensures gives { FeedsBody result self.old self.new piece.now }
     {
@@ -282,7 +282,7 @@ impl<H: MessageHead> MessageReader<H> {
             Err(fault) => Err(fault),
             Ok(Progress::More) => Ok(Progress::More),
             Ok(Progress::Whole(used)) => {
-                self.stage = Stage::End;
+                self.stage = MessageStage::End;
                 Ok(Progress::Whole(used))
             }
         }
@@ -291,7 +291,7 @@ impl<H: MessageHead> MessageReader<H> {
     /// Says that no more octets come. A message that lasts until the close is whole then.
     pub fn end(&mut self) -> Result<Progress, FrameFault>
         requires { CanFeed H.form self.old }
-        // Each answer stands only where it says so.
+        // Each result stands only where it says so.
         ensures gives { (kind : Kind) (room : Room) (octets : List ℕ)
             → Agrees H.form kind room self.old octets
             → EndGives H.form result kind room self.new octets }
@@ -302,11 +302,11 @@ impl<H: MessageHead> MessageReader<H> {
     {
         match self.close() {
             Ok(()) => {
-                self.stage = Stage::End;
+                self.stage = MessageStage::End;
                 Ok(Progress::Whole(0))
             }
             Err(fault) => {
-                self.stage = Stage::Failed;
+                self.stage = MessageStage::Failed;
                 Err(fault)
             }
         }
@@ -341,20 +341,20 @@ impl<H: MessageHead> MessageReader<H> {
         ensures failed { HasFailed self.now → result ≡ Err FrameFault.Failed }
     {
         match self.stage {
-            Stage::Head => match H::read(self.alloc, self.start.as_slice(), self.room) {
+            MessageStage::Head => match H::read(self.alloc, self.start.as_slice(), self.room) {
                 Err(fault) => Err(head_fault(fault)),
                 Ok(Step::More) => Err(FrameFault::Truncated),
                 Ok(Step::Whole(_, _)) => unreachable!(),
             },
-            Stage::Body => {
+            MessageStage::Body => {
                 if self.body.ends_with_close() {
                     Ok(())
                 } else {
                     Err(FrameFault::Truncated)
                 }
             }
-            Stage::Failed => Err(FrameFault::Failed),
-            Stage::End => unreachable!(),
+            MessageStage::Failed => Err(FrameFault::Failed),
+            MessageStage::End => unreachable!(),
         }
     }
 }

@@ -17,7 +17,7 @@ use std::alloc::Global;
 /// The request that the octets are, all of them, in the room of a recorded head. Octets after it are
 /// the fault `BadLength`.
 pub fn whole_request(alloc: Global, bytes: &[u8]) -> Result<Message<RequestHead>, FrameFault>
-    // Each answer stands only where it says so.
+    // Each result stands only where it says so.
     ensures gives { GivesRequest result bytes.now Room.RECORDED }
     // What is a request is read, unless memory runs out.
     ensures found { (message : Message RequestHead) → IsWholeRequest bytes.now Room.RECORDED message
@@ -40,7 +40,7 @@ pub fn whole_response(
     bytes: &[u8],
     to_head: bool,
 ) -> Result<Message<ResponseHead>, FrameFault>
-    // Each answer stands only where it says so.
+    // Each result stands only where it says so.
     ensures gives { GivesResponse to_head result bytes.now Room.RECORDED }
     // What is a response is read, unless memory runs out.
     ensures found { (message : Message ResponseHead) → IsWholeResponse to_head bytes.now Room.RECORDED message

@@ -8,6 +8,7 @@ use Rattle.hc_fields.specs.Values.{values_of, has_name}
 use Rattle.hc_directives.specs.declared.cache_control.Seconds.{Seconds}
 use Rattle.hc_directives.specs.declared.cache_control.Seconds.TheVariants.{Absent, Bare, Value, Unreadable}
 use Rattle.hc_directives.specs.Directives.{cache_control, has_directive, first_directive, seconds_of}
+use Rattle.hc_fresh.specs.declared.lifetimes.Freshness.{Freshness}
 use Rattle.hc_fresh.specs.Dates.{date_of}
 
 -- ---- the lifetime that a response states
@@ -60,3 +61,8 @@ abbrev pub stale_forbidden : List Field → Bool
 stale_forbidden fields =
     says (codes "no-cache") fields || says (codes "must-revalidate") fields
     || says (codes "proxy-revalidate") fields || says (codes "s-maxage") fields
+
+-- what a response of that date states of its freshness
+abbrev pub freshness_stated : List Field → ℕ → Freshness
+freshness_stated fields date =
+    record { is_explicit = explicit fields; lifetime = freshness_lifetime fields date; no_cache = says (codes "no-cache") fields }

@@ -15,5 +15,5 @@ pub use laws::{
     age_value_has_a_limit, dated_fields_state_a_date, lifetime_has_a_limit,
     stale_response_stays_stale, written_date_read_back,
 };
-pub use lifetimes::{explicit, lifetime, stale_forbidden};
+pub use lifetimes::{Freshness, explicit, freshness_stated, lifetime, stale_forbidden};
 pub use saying::{says, seconds_said};

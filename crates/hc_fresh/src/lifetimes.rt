@@ -1,10 +1,12 @@
 //! How long a stored response stays fresh (RFC 9111 section 4.2.1).
 
 ghost use Rattle.std.specs.Prelude.{◌≡◌};
-ghost use Rattle.hc_fresh.specs.Lifetimes.{seconds_stated, seconds_until, expires_lifetime, stated_lifetime, freshness_lifetime, explicit, stale_forbidden};
+ghost use Rattle.hc_directives.specs.Directives.{cache_control};
+ghost use Rattle.hc_directives.specs.Known.{known_directives};
+ghost use Rattle.hc_fresh.specs.Lifetimes.{seconds_stated, seconds_until, expires_lifetime, stated_lifetime, freshness_lifetime, freshness_stated, explicit, stale_forbidden};
 
 use crate::dates::read_date;
-use hc_directives::{Directives, Seconds};
+use hc_directives::{Directives, KnownDirectives, Seconds};
 use hc_fields::{FieldsView, LARGEST_NUMBER, Lines};
 
 /// The lifetime that a directive states, if it is there.
@@ -36,11 +38,22 @@ fn stated_by_expires(fields: &FieldsView<'_>, date: u64) -> Option<u32>
     Some(seconds_until(date, expires))
 }
 
-/// The lifetime that a response of that date states.
-fn stated(fields: &FieldsView<'_>, date: u64) -> Option<u32>
+/// What a response states of its freshness.
+#[derive(Clone, Copy)]
+pub struct Freshness {
+    /// Whether it states a lifetime, readable or not.
+    pub is_explicit: bool,
+    /// Its freshness lifetime in a shared cache, in seconds.
+    pub lifetime: u32,
+    /// Whether it says no-cache, whatever the argument (RFC 9111 section 5.2.2.4).
+    pub no_cache: bool,
+}
+
+/// The lifetime that a response of that date states, whose directives are known.
+fn stated(known: &KnownDirectives, fields: &FieldsView<'_>, date: u64) -> Option<u32>
+    requires { known.now ≡ known_directives (cache_control fields.now).directives }
     ensures { result ≡ stated_lifetime fields.now date }
 {
-    let known = Directives::read(fields).known();
     if let Some(seconds) = seconds_stated(known.s_maxage) {
         return Some(seconds);
     }
@@ -54,7 +67,32 @@ fn stated(fields: &FieldsView<'_>, date: u64) -> Option<u32>
 pub fn lifetime<L: Lines>(fields: &L, date: u64) -> u32
     ensures { result ≡ freshness_lifetime (L.lines fields.now) date }
 {
-    stated(&fields.lent(), date).unwrap_or(0)
+    lifetime_in(&fields.lent(), date)
+}
+
+fn lifetime_in(fields: &FieldsView<'_>, date: u64) -> u32
+    ensures { result ≡ freshness_lifetime fields.now date }
+{
+    let known = Directives::read(fields).known();
+    stated(&known, fields, date).unwrap_or(0)
+}
+
+/// What a response of that date states of its freshness. Its directives are read once.
+pub fn freshness_stated<L: Lines>(fields: &L, date: u64) -> Freshness
+    ensures { result ≡ freshness_stated (L.lines fields.now) date }
+{
+    freshness_stated_in(&fields.lent(), date)
+}
+
+fn freshness_stated_in(fields: &FieldsView<'_>, date: u64) -> Freshness
+    ensures { result ≡ freshness_stated fields.now date }
+{
+    let known = Directives::read(fields).known();
+    Freshness {
+        is_explicit: states_lifetime(&known, fields),
+        lifetime: stated(&known, fields, date).unwrap_or(0),
+        no_cache: known.no_cache,
+    }
 }
 
 /// Whether a response states a lifetime, readable or not.
@@ -64,11 +102,19 @@ pub fn explicit<L: Lines>(fields: &L) -> bool
     explicit_in(&fields.lent())
 }
 
-#[tactic(auto, using(hc_directives::proofs::KnownLemmas::seconds_are_there))]
 fn explicit_in(fields: &FieldsView<'_>) -> bool
     ensures { result ≡ explicit fields.now }
 {
     let known = Directives::read(fields).known();
+    states_lifetime(&known, fields)
+}
+
+/// Whether a response states a lifetime, whose directives are known.
+#[tactic(auto, using(hc_directives::proofs::KnownLemmas::seconds_are_there))]
+fn states_lifetime(known: &KnownDirectives, fields: &FieldsView<'_>) -> bool
+    requires { known.now ≡ known_directives (cache_control fields.now).directives }
+    ensures { result ≡ explicit fields.now }
+{
     known.s_maxage.is_there() || known.max_age.is_there() || fields.contains(b"expires")
 }
 

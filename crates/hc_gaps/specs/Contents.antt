@@ -1,16 +1,12 @@
 -- In what the status or the body of a reply differs from a stored response's.
-use Rattle.std.specs.Prelude.{◌≡◌, ℕ, Bool, ◌==◌, List, Option, Some, None, bytes_eq, length, zip, if◌then◌else◌}
-use Rattle.std.specs.List.{prefix_len}
+use Rattle.std.specs.Prelude.{◌≡◌, ℕ, Bool, ◌==◌, List, Option, Some, None, bytes_eq, length, if◌then◌else◌}
+use Rattle.hc_framing.specs.Pieces.{in_common}
 use Rattle.hc_head.specs.Methods.{is_head}
 use Rattle.hc_update.specs.declared.stored.Stored.{Stored}
 use Rattle.hc_history.specs.Claims.{Claim}
 use Rattle.hc_gaps.specs.declared.contents.BodyGap.{BodyGap}
 use Rattle.hc_gaps.specs.declared.contents.ContentGap.{ContentGap}
 use Rattle.hc_gaps.specs.Demanding.{content_sections, gap_sections}
-
--- how many octets both begin with
-abbrev pub in_common : List ℕ → List ℕ → ℕ
-in_common one other = prefix_len (λ pair. pair.0 == pair.1) (zip one other)
 
 -- the reply to a request of that method has the body that is due, or none where the request is HEAD
 abbrev pub has_body : List ℕ → List ℕ → List ℕ → Bool

@@ -104,6 +104,11 @@ GivesTarget (Err fault.Host) head = (host : Authority) → ¬ (HasHost head host
 GivesTarget (Err fault.Target) head = ((host : Authority) × HasHost head host) × ((form : Form) → ¬ (NamesForm head form))
 GivesTarget (Err fault.Memory) head = Unit {0}
 
+-- the target that was read in place of the unit
+abbrev pub read_as : Result (Unit {0}) HeadFault → Target → Result Target HeadFault
+read_as (Ok done) target = Ok target
+read_as (Err f) target = Err f
+
 -- the answer is that target, unless memory ran out
 abbrev pub FindsTarget : Result Target HeadFault → Target → Type 0
 FindsTarget (Ok found) target = found ≡ target

@@ -1,13 +1,13 @@
 //! Hosts with their ports, as Host lines and the authorities of URIs have them.
 
-ghost use Rattle.std.specs.Prelude.{◌≡◌, ℕ, ◌<◌, ◌≤◌, ◌==◌, ◌&&◌, nat_lt, slice_index, length, IfOk, IfSome, IfNone, List};
+ghost use Rattle.std.specs.Prelude.{◌≡◌, ℕ, ◌<◌, ◌≤◌, ◌==◌, ◌&&◌, nat_lt, slice_index, length, IfSome, IfNone, List, OnOk};
 ghost use Rattle.std.specs.List.{list_all, prefix_len};
 ghost use Rattle.std.specs.Char.{is_ascii_digit};
 ghost use Rattle.hc_head.specs.HostScan.{FindsFront, authority_of};
 ghost use Rattle.hc_head.specs.Hosts.{Authority, HasAuthority, IsAddress, IsHost, IsName, is_address_octet, is_default_port, is_name_octet, is_port, normal_host};
 
 use hc_fields::Octets;
-use std::alloc::{AllocError, Global};
+use std::alloc::AllocError;
 
 /// The longest host, its brackets included and its port not.
 const LONGEST_HOST: usize = 255;
@@ -121,13 +121,15 @@ fn is_default_port(port: &[u8]) -> bool
     port == b":".as_slice() || port == b":80".as_slice()
 }
 
-/// The host in lower case, with its port where that says something.
-pub(crate) fn normal_host(alloc: Global, from: HostAndPort<'_>) -> Result<Octets, AllocError>
-    ensures { IfOk result (λ host. host ≡ normal_host (authority_of from.entry)) }
+/// Puts the host in lower case in the place of other octets, with its port where that says something.
+pub(crate) fn put_host(host: &mut Octets, from: HostAndPort<'_>) -> Result<(), AllocError>
+    ensures { OnOk result (host.new ≡ normal_host (authority_of from.entry)) }
 {
-    let mut text = from.host.to_ascii_lowercase(alloc)?;
+    host.clear();
+    host.extend_from_slice(from.host)?;
+    host.make_ascii_lowercase();
     if !is_default_port(from.port) {
-        text.extend_from_slice(from.port)?;
+        host.extend_from_slice(from.port)?;
     }
-    Ok(Octets::from_vec(text))
+    Ok(())
 }

@@ -30,7 +30,7 @@ pub use requests::{one_request_head, read_request};
 pub use responses::{one_response_head, read_response};
 pub use statuses::{StatusCode, is_error_status, is_interim};
 pub use targets::{
-    forwarded_target_is_the_same, lent_target, one_target, same_target, target,
+    forwarded_target_is_the_same, one_target, read_target, same_target, target,
     target_parts_are_plain, targets_compare_by_host_and_path,
 };
 pub use views::{RequestHeadView, ResponseHeadView};

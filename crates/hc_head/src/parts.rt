@@ -51,7 +51,7 @@ pub(crate) fn front_of(bytes: &[u8], limit: usize) -> &[u8]
     }
 }
 
-/// Whether the answer is that there are too many fields.
+/// Whether the result is that there are too many fields.
 pub(crate) fn has_too_many<H>(answer: &Result<Step<H>, HeadFault>) -> bool
     ensures { result ≡ has_too_many answer.now }
 {

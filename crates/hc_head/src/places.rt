@@ -161,7 +161,7 @@ impl HeadPlaces {
     /// Finds where the parts of the request's head stand that begins the octets, of which no more than the room are looked
     /// at. How long the head is is told, or nothing where it hasn't ended.
     pub fn find_request(&mut self, octets: &[u8], room: Room) -> Result<Option<usize>, HeadFault>
-        // Each answer stands only where it says so.
+        // Each result stands only where it says so.
         ensures gives { GivesHead BeginsRequestHead request_field_count (told (request_at self.new octets.now) result)
             octets.now room }
         // More octets are wanted only where they can make a head.
@@ -187,7 +187,7 @@ impl HeadPlaces {
 
     /// The same of a response.
     pub fn find_response(&mut self, octets: &[u8], room: Room) -> Result<Option<usize>, HeadFault>
-        // Each answer stands only where it says so.
+        // Each result stands only where it says so.
         ensures gives { GivesHead BeginsResponseHead response_field_count (told (response_at self.new octets.now) result)
             octets.now room }
         // More octets are wanted only where they can make a head.

@@ -88,7 +88,7 @@ fn read_into(
 
 /// Reads the head of a request that begins the octets, of which no more than the room are looked at.
 pub fn read_request(alloc: Global, bytes: &[u8], room: Room) -> Result<Step<RequestHead>, HeadFault>
-    // Each answer stands only where it says so.
+    // Each result stands only where it says so.
     ensures gives { GivesHead BeginsRequestHead request_field_count result bytes.now room }
     // A whole head is found, unless memory runs out.
     ensures found { (head : RequestHead) (len : ℕ)

@@ -107,7 +107,7 @@ pub fn read_response(
     bytes: &[u8],
     room: Room,
 ) -> Result<Step<ResponseHead>, HeadFault>
-    // Each answer stands only where it says so.
+    // Each result stands only where it says so.
     ensures gives { GivesHead BeginsResponseHead response_field_count result bytes.now room }
     // A whole head is found, unless memory runs out.
     ensures found { (head : ResponseHead) (len : ℕ)

@@ -1,6 +1,6 @@
 //! The target of a request.
 
-ghost use Rattle.std.specs.Prelude.{◌≡◌, ◌≢◌, ◌<◌, ◌≤◌, ◌⊎◌, ◌↔◌, ℕ, true, false, not, List, [], ◌∷◌, length, codes, bytes_eq, IfOk, IfErr, IfSome, IfNone, IsTrue};
+ghost use Rattle.std.specs.Prelude.{◌≡◌, ◌≢◌, ◌<◌, ◌≤◌, ◌⊎◌, ◌↔◌, ℕ, true, false, not, List, [], ◌∷◌, length, codes, bytes_eq, IfOk, IfErr, OnOk, IfSome, IfNone, IsTrue};
 ghost use Rattle.std.specs.List.{list_all, prefix_len};
 ghost use Rattle.std.specs.Ordering.{nat_cmp, ordering_then};
 ghost use Rattle.std.specs.Cmp.Lexicographic.{slice_cmp};
@@ -15,11 +15,11 @@ ghost use Rattle.hc_head.specs.declared.fault.HeadFault.TheVariants.{Memory};
 ghost use Rattle.hc_head.specs.HostScan.{authority_of};
 ghost use Rattle.hc_head.specs.Hosts.{Authority, HasAuthority};
 ghost use Rattle.hc_head.specs.Plain.{is_plain_value, is_plain_field, IsPlainTarget, IsPlainRequest};
-ghost use Rattle.hc_head.specs.Targets.{Asterisk, FindsTarget, FollowsScheme, GivesTarget, HasForm, HasHost, HasTarget, IsAbsoluteForm, IsOriginForm, MayName, absolute_path, host_field, is_path_start, same_target};
+ghost use Rattle.hc_head.specs.Targets.{Asterisk, FindsTarget, FollowsScheme, GivesTarget, HasForm, HasHost, HasTarget, IsAbsoluteForm, IsOriginForm, MayName, absolute_path, host_field, is_path_start, read_as, same_target};
 
 use crate::fault::HeadFault;
 use crate::head::{RequestHead, Target};
-use crate::hosts::{HostAndPort, host_and_port, normal_host};
+use crate::hosts::{HostAndPort, host_and_port, put_host};
 use crate::methods::{is_connect, is_options};
 use crate::views::RequestHeadView;
 use hc_fields::Octets;
@@ -152,19 +152,21 @@ fn absolute_form(alloc: Global, text: &[u8]) -> Result<Option<AbsoluteForm<'_>>,
     Ok(Some(AbsoluteForm { authority, rest }))
 }
 
-fn absolute_path(alloc: Global, method: &[u8], rest: &[u8]) -> Result<Octets, AllocError>
-    ensures { IfOk result (λ path. path ≡ absolute_path method.now rest.now) }
+/// Puts the path of an absolute form in the place of other octets.
+fn put_path(path: &mut Octets, method: &[u8], rest: &[u8]) -> Result<(), AllocError>
+    ensures { OnOk result (path.new ≡ absolute_path method.now rest.now) }
 {
+    path.clear();
     match rest.first() {
-        None if is_options(method) => Octets::from_slice(alloc, b"*"),
-        None => Octets::from_slice(alloc, b"/"),
+        None if is_options(method) => path.extend_from_slice(b"*")?,
+        None => path.extend_from_slice(b"/")?,
         Some(b'?') => {
-            let mut path = Octets::from_slice(alloc, b"/")?;
+            path.extend_from_slice(b"/")?;
             path.extend_from_slice(rest)?;
-            Ok(path)
         }
-        Some(_) => Octets::from_slice(alloc, rest),
+        Some(_) => path.extend_from_slice(rest)?,
     }
+    Ok(())
 }
 
 fn may_name(head: &RequestHeadView<'_>) -> bool
@@ -173,8 +175,12 @@ fn may_name(head: &RequestHeadView<'_>) -> bool
     !is_connect(head.method) && !head.target.contains(&b'#') && head.target.len() <= LONGEST_TARGET
 }
 
-fn read_target(alloc: Global, head: &RequestHeadView<'_>) -> Result<Target, HeadFault>
-    ensures { GivesTarget result head.now }
+fn read_into(
+    alloc: Global,
+    head: &RequestHeadView<'_>,
+    target: &mut Target,
+) -> Result<(), HeadFault>
+    ensures { GivesTarget (read_as result target.new) head.now }
 {
     let Some(host) = host_line(head) else {
         return Err(HeadFault::Host);
@@ -183,38 +189,49 @@ fn read_target(alloc: Global, head: &RequestHeadView<'_>) -> Result<Target, Head
         return Err(HeadFault::Target);
     }
     if is_asterisk_form(head) || is_origin_form(alloc, head.target)? {
-        return Ok(Target {
-            host: normal_host(alloc, host)?,
-            path: Octets::from_slice(alloc, head.target)?,
-        });
+        put_host(&mut target.host, host)?;
+        target.path.clear();
+        target.path.extend_from_slice(head.target)?;
+        return Ok(());
     }
     let Some(form) = absolute_form(alloc, head.target)? else {
         return Err(HeadFault::Target);
     };
-    Ok(Target {
-        host: normal_host(alloc, form.authority)?,
-        path: absolute_path(alloc, head.method, form.rest)?,
-    })
+    put_host(&mut target.host, form.authority)?;
+    put_path(&mut target.path, head.method, form.rest)?;
+    Ok(())
+}
+
+/// Reads the target of a request that is lent, in the memory of another target. A wrong Host line is told
+/// before a wrong target. After an error nothing is said of what stands there.
+pub fn read_target(
+    alloc: Global,
+    head: &RequestHeadView<'_>,
+    target: &mut Target,
+) -> Result<(), HeadFault>
+    // Each result stands only where it says so.
+    ensures gives { GivesTarget (read_as result target.new) head.now }
+    // A target that is there is found, unless memory runs out.
+    ensures found { (there : Target) → HasTarget head.now there → FindsTarget (read_as result target.new) there }
+{
+    read_into(alloc, head, target)
 }
 
 /// The target of a request. A wrong Host line is told before a wrong target.
 pub fn target(alloc: Global, head: &RequestHead) -> Result<Target, HeadFault>
-    // Each answer stands only where it says so.
+    // Each result stands only where it says so.
     ensures gives { GivesTarget result head.now }
     // A target that is there is found, unless memory runs out.
     ensures found { (target : Target) → HasTarget head.now target → FindsTarget result target }
 {
-    read_target(alloc, &head.lent())
-}
-
-/// The target of a request that is lent.
-pub fn lent_target(alloc: Global, head: &RequestHeadView<'_>) -> Result<Target, HeadFault>
-    // Each answer stands only where it says so.
-    ensures gives { GivesTarget result head.now }
-    // A target that is there is found, unless memory runs out.
-    ensures found { (target : Target) → HasTarget head.now target → FindsTarget result target }
-{
-    read_target(alloc, head)
+    let mut target = Target {
+        host: Octets::new(alloc),
+        path: Octets::new(alloc),
+    };
+    match read_target(alloc, &head.lent(), &mut target) {
+        Ok(()) => Ok(target),
+        Err(fault) => Err(fault),
+    }
 }
 
 /// Whether both are the same host and the same path.

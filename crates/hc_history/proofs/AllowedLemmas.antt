@@ -1,6 +1,6 @@
 -- With nothing allowed the rules are the strict ones, and what is right stays right where more is allowed.
-use Rattle.std.proofs.Common.{◌≡◌, ℕ, ◌+◌, ◌≤◌, ◌==◌, Bool, true, false, not, ◌&&◌, ◌||◌, List, [], ◌∷◌, length, take, zero, suc, Option, Some, None, is_some, refl, sym, ap, subst, ◌∙◌, arith, inl, inr}
-use Rattle.std.specs.Prelude.{nat_le, nat_lt, codes, if◌then◌else◌}
+use Rattle.std.proofs.Common.{◌≡◌, ℕ, ◌+◌, ◌≤◌, ◌==◌, Bool, true, false, not, ◌&&◌, ◌||◌, List, [], ◌∷◌, length, take, zero, suc, Option, Some, None, is_some, refl, sym, ap, subst, ◌∙◌, arith, inl, inr, ℤ}
+use Rattle.std.specs.Prelude.{nat_le, nat_lt, nat_abs, ◌-ℤ◌, codes, if◌then◌else◌}
 use Rattle.std.specs.List.{list_all}
 use Rattle.std.proofs.lemmas.Bool.{and_from, and_left, and_parts, or_left, or_right, or_from}
 use Rattle.std.proofs.lemmas.Bool.Decides.{nat_tests}
@@ -28,17 +28,19 @@ use Rattle.hc_history.specs.declared.among.Among.TheVariants.{Any, InWindow, Rec
 use Rattle.hc_history.specs.declared.kept.Kept.{Kept}
 use Rattle.hc_history.specs.declared.settings.Settings.{Settings}
 use Rattle.hc_history.specs.declared.verdicts.Counts.{Counts}
-use Rattle.hc_history.specs.Allowed.{AllowsMore, SecondsAtMost, LetsPassMore, nothing_but_marks}
+use Rattle.hc_history.specs.declared.settings.UnmarkedReplies.{UnmarkedReplies}
+use Rattle.hc_history.specs.declared.settings.UnmarkedReplies.TheVariants.{Allow, ErrorsOnly}
+use Rattle.hc_history.specs.Allowed.{SecondsAtMost, UnmarkedAtMost, LetsPassMore, nothing_but_marks}
 use Rattle.hc_history.specs.Allowing.{age_is_allowed, allowed_lifetime, allowed_staleness, at_least, fields_are_allowed, filters, grace_permits, has_its_values, may_be_added, is_allowed_fresh, is_allowed_stale, is_allowed_usable, is_joined, is_met_or_normalized, is_near_age, is_normalized, selection_is_allowed, takes_default, use_is_allowed, widens_use}
 use Rattle.hc_history.specs.Claims.{Claim, claim_of}
 use Rattle.hc_history.specs.Counting.{counts_of, marked, one_more}
-use Rattle.hc_history.specs.Filters.{compared_names, has_its_age, has_its_body, has_its_fields, has_its_ttl, is_age, is_asked_for, is_exempt, is_selected, is_valid, same_values, strict_filters, within}
+use Rattle.hc_history.specs.Filters.{compared_names, has_its_age, has_its_body, has_its_fields, has_its_ttl, is_age, is_asked_for, is_exempt, is_selected, is_ttl, is_valid, same_values, strict_filters, within}
 use Rattle.hc_history.specs.Forwarded.{asks_the_same, carries, carries_part, carries_response, carries_whole, is_carried}
 use Rattle.hc_history.specs.Marks.{infers, inferred_mark, item_mark, mark_by, mark_to, reply_mark, says_nothing, tells_causes}
 use Rattle.hc_history.specs.Ranges.{asks_for_part, content_range, is_no_part, is_no_part_told, is_part, is_part_told, range_not_satisfiable}
 use Rattle.hc_history.specs.Reused.{Pass, is_looked_at}
-use Rattle.hc_history.specs.Right.{AllRight, CarriesStored, IsRight, IsRightBy, IsRightForwarded, IsRightTo, is_judged_collapsed}
-use Rattle.hc_history.specs.Usable.{age_of, is_usable, lifetime_of, max_stale_permits, permits, permits_staleness}
+use Rattle.hc_history.specs.Right.{AllRight, CarriesStored, IsRight, IsRightBy, IsRightForwarded, IsRightTo, allows_unmarked, is_judged_collapsed}
+use Rattle.hc_history.specs.Usable.{age_of, is_usable, lifetime_of, max_stale_permits, permits, permits_staleness, staleness_at}
 use Rattle.hc_history.specs.Verdicts.{IsAllRight}
 use Rattle.hc_history.specs.Windows.{has_forward, some_since}
 
@@ -74,14 +76,15 @@ all_more f g more (x ∷ xs) is = and_more (f x) (list_all f xs) (g x) (list_all
 within_more : (fewer more one other : ℕ) → fewer ≤ more → within fewer one other ≡ true → within more one other ≡ true
 within_more fewer more one other few is = grind (arith, nat_tests)
 
-fresh_more : (age less more slack : ℕ) → less ≤ more → nat_lt age (less + slack) ≡ true → nat_lt age (more + slack) ≡ true
-fresh_more age less more slack few is = grind (arith, nat_tests)
+le_more : (n fewer more : ℕ) → fewer ≤ more → nat_le n fewer ≡ true → nat_le n more ≡ true
+le_more n fewer more few is = grind (arith, nat_tests)
 
-stale_more : (stale staler seconds slack : ℕ) → stale ≤ staler → nat_le staler (seconds + slack) ≡ true → nat_le stale (seconds + slack) ≡ true
-stale_more stale staler seconds slack few is = grind (arith, nat_tests)
+fresh_more : (age less more slack wider : ℕ) → less ≤ more → slack ≤ wider → nat_lt age (less + slack) ≡ true → nat_lt age (more + wider) ≡ true
+fresh_more age less more slack wider few wide is = grind (arith, nat_tests)
 
-grace_more : (stale staler seconds more slack : ℕ) → stale ≤ staler → seconds ≤ more → nat_le staler (seconds + slack) ≡ true → nat_le stale (more + slack) ≡ true
-grace_more stale staler seconds more slack few graces is = grind (arith, nat_tests)
+stale_more : (stale staler seconds more slack wider : ℕ) → stale ≤ staler → seconds ≤ more → slack ≤ wider
+    → nat_le staler (seconds + slack) ≡ true → nat_le stale (more + wider) ≡ true
+stale_more stale staler seconds more slack wider few longer wide is = grind (arith, nat_tests)
 
 -- ---- nothing allowed
 
@@ -166,9 +169,9 @@ marked_strictly format allowed forwarded reply none =
 
 -- ---- more allowed
 
--- the same claim, where that is allowed
-abbrev allowing : Allowed → Claim → Claim
-allowing allowed claim = record {
+-- the same claim, by these settings
+abbrev under : Settings → Claim → Claim
+under settings claim = record {
   format = claim.format;
   exchange = claim.exchange;
   request = claim.request;
@@ -180,7 +183,7 @@ allowing allowed claim = record {
   ttl = claim.ttl;
   has_error = claim.has_error;
   has_failure = claim.has_failure;
-  settings = record { slack = claim.settings.slack; ignored = claim.settings.ignored; unmarked = claim.settings.unmarked; allowed = allowed };
+  settings = settings;
 }
 
 some_more : (less more : Option ℕ) → SecondsAtMost less more → is_some less ≡ true → is_some more ≡ true
@@ -199,23 +202,29 @@ at_least_more (Some n) (Some m) at_most true false up lifetime = absurd (let no 
 at_least_more (Some n) (Some m) at_most false true up lifetime = omega arith
 at_least_more (Some n) (Some m) at_most false false up lifetime = omega arith
 
-permits_more : (slack stale staler : ℕ) → stale ≤ staler → (seconds : Seconds) → permits slack staler seconds ≡ true → permits slack stale seconds ≡ true
-permits_more slack stale staler few (Value seconds) is = stale_more stale staler seconds slack few is
-permits_more slack stale staler few Absent is = is
-permits_more slack stale staler few Bare is = is
-permits_more slack stale staler few Unreadable is = is
+unmarked_more : (less more : UnmarkedReplies) → UnmarkedAtMost less more → (status : ℕ) → allows_unmarked less status ≡ true → allows_unmarked more status ≡ true
+unmarked_more ErrorsOnly ErrorsOnly at_most status is = is
+unmarked_more ErrorsOnly Allow at_most status is = refl
+unmarked_more Allow ErrorsOnly at_most status is = absurd at_most
+unmarked_more Allow Allow at_most status is = refl
 
-max_stale_more : (slack stale staler : ℕ) → stale ≤ staler → (seconds : Seconds) → max_stale_permits slack staler seconds ≡ true → max_stale_permits slack stale seconds ≡ true
-max_stale_more slack stale staler few (Value seconds) is = stale_more stale staler seconds slack few is
-max_stale_more slack stale staler few Absent is = is
-max_stale_more slack stale staler few Bare is = is
-max_stale_more slack stale staler few Unreadable is = is
+module _ (slack wider : ℕ) (wide : slack ≤ wider) (stale staler : ℕ) (few : stale ≤ staler) where
+  permits_more : (seconds : Seconds) → permits slack staler seconds ≡ true → permits wider stale seconds ≡ true
+  permits_more (Value seconds) is = stale_more stale staler seconds seconds slack wider few (omega arith) wide is
+  permits_more Absent is = is
+  permits_more Bare is = is
+  permits_more Unreadable is = is
 
-grace_permits_more : (slack stale staler : ℕ) → stale ≤ staler → (less more : Option ℕ) → SecondsAtMost less more → grace_permits slack staler less ≡ true
-    → grace_permits slack stale more ≡ true
-grace_permits_more slack stale staler few None more at_most is = cc
-grace_permits_more slack stale staler few (Some n) None at_most is = absurd at_most
-grace_permits_more slack stale staler few (Some n) (Some m) at_most is = grace_more stale staler n m slack few at_most is
+  max_stale_more : (seconds : Seconds) → max_stale_permits slack staler seconds ≡ true → max_stale_permits wider stale seconds ≡ true
+  max_stale_more (Value seconds) is = stale_more stale staler seconds seconds slack wider few (omega arith) wide is
+  max_stale_more Absent is = is
+  max_stale_more Bare is = is
+  max_stale_more Unreadable is = is
+
+  grace_permits_more : (less more : Option ℕ) → SecondsAtMost less more → grace_permits slack staler less ≡ true → grace_permits wider stale more ≡ true
+  grace_permits_more None more at_most is = cc
+  grace_permits_more (Some n) None at_most is = absurd at_most
+  grace_permits_more (Some n) (Some m) at_most is = stale_more stale staler n m slack wider few at_most wide is
 
 -- each test of the one implies that of the other
 abbrev Implies : List Bool → List Bool → Type 0
@@ -231,19 +240,20 @@ take_more (suc n) (x ∷ xs) [] more is few = refl
 take_more (suc n) (x ∷ xs) (y ∷ ys) more is few =
     and_more x (list_all (λ b. b) (take n xs)) y (list_all (λ b. b) (take n ys)) more.0 (λ rest. take_more n xs ys more.1 rest (omega (arith, few))) is
 
-module _ (claim : Claim) (allowed : Allowed) (more : AllowsMore allowed claim.settings.allowed) where
+module _ (claim : Claim) (settings : Settings) (more : LetsPassMore settings claim.settings) where
   wider : Claim
-  wider = allowing allowed claim
+  wider = under settings claim
 
   default_more : (state : Stored) → takes_default claim state ≡ true → takes_default wider state ≡ true
   unfolding wider
-  default_more state is = and_more _ _ _ _ (and_more _ _ _ _ (some_more claim.settings.allowed.default_lifetime allowed.default_lifetime more.default_lifetime) same) same is
+  default_more state is =
+      and_more _ _ _ _ (and_more _ _ _ _ (some_more claim.settings.allowed.default_lifetime settings.allowed.default_lifetime more.allowed.default_lifetime) same) same is
 
   lifetime_more : (state : Stored) → allowed_lifetime claim state ≤ allowed_lifetime wider state
   unfolding wider
   lifetime_more state =
-      at_least_more claim.settings.allowed.default_lifetime allowed.default_lifetime more.default_lifetime (takes_default claim state) (takes_default wider state) (default_more state)
-      (lifetime_of state)
+      at_least_more claim.settings.allowed.default_lifetime settings.allowed.default_lifetime more.allowed.default_lifetime (takes_default claim state) (takes_default wider state)
+      (default_more state) (lifetime_of state)
 
   staleness_less : (state : Stored) → allowed_staleness wider state ≤ allowed_staleness claim state
   unfolding wider
@@ -254,34 +264,44 @@ module _ (claim : Claim) (allowed : Allowed) (more : AllowsMore allowed claim.se
   staleness_more state stale staler few is =
       or_more _ _ _ _
       (or_more _ _ _ _
-      (or_more _ _ _ _ (max_stale_more claim.settings.slack stale staler few (seconds_said (codes "max-stale") claim.request.fields))
-      (permits_more claim.settings.slack stale staler few (seconds_said (codes "stale-while-revalidate") state.fields)))
+      (or_more _ _ _ _ (max_stale_more claim.settings.slack settings.slack more.slack stale staler few (seconds_said (codes "max-stale") claim.request.fields))
+      (permits_more claim.settings.slack settings.slack more.slack stale staler few (seconds_said (codes "stale-while-revalidate") state.fields)))
       (and_more _ _ _ _ same
-      (or_more _ _ _ _ (permits_more claim.settings.slack stale staler few (seconds_said (codes "stale-if-error") state.fields))
-      (permits_more claim.settings.slack stale staler few (seconds_said (codes "stale-if-error") claim.request.fields)))))
+      (or_more _ _ _ _ (permits_more claim.settings.slack settings.slack more.slack stale staler few (seconds_said (codes "stale-if-error") state.fields))
+      (permits_more claim.settings.slack settings.slack more.slack stale staler few (seconds_said (codes "stale-if-error") claim.request.fields)))))
       same is
+
+  strictly_usable_more : (state : Stored) → is_usable claim state ≡ true → is_usable wider state ≡ true
+  unfolding wider
+  strictly_usable_more state is =
+      or_more _ _ _ _ same
+      (and_more _ _ _ _ same
+      (or_more _ _ _ _ (fresh_more (age_of claim state) (lifetime_of state) (lifetime_of state) claim.settings.slack settings.slack (omega arith) more.slack)
+      (and_more _ _ _ _ same (staleness_more state (staleness_at state claim.moment) (staleness_at state claim.moment) (omega arith)))))
+      is
 
   usable_more : (state : Stored) → is_allowed_usable claim state ≡ true → is_allowed_usable wider state ≡ true
   unfolding wider
   usable_more state is =
       and_more _ _ _ _
       (and_more _ _ _ _
-      (or_more _ _ _ _ (some_more claim.settings.allowed.default_lifetime allowed.default_lifetime more.default_lifetime)
-      (some_more claim.settings.allowed.grace allowed.grace more.grace))
+      (or_more _ _ _ _ (some_more claim.settings.allowed.default_lifetime settings.allowed.default_lifetime more.allowed.default_lifetime)
+      (some_more claim.settings.allowed.grace settings.allowed.grace more.allowed.grace))
       same)
-      (or_more _ _ _ _ (fresh_more (age_of claim state) (allowed_lifetime claim state) (allowed_lifetime wider state) claim.settings.slack (lifetime_more state))
+      (or_more _ _ _ _ (fresh_more (age_of claim state) (allowed_lifetime claim state) (allowed_lifetime wider state) claim.settings.slack settings.slack (lifetime_more state) more.slack)
       (and_more _ _ _ _ same
       (or_more _ _ _ _ (staleness_more state (allowed_staleness wider state) (allowed_staleness claim state) (staleness_less state))
-      (grace_permits_more claim.settings.slack (allowed_staleness wider state) (allowed_staleness claim state) (staleness_less state) claim.settings.allowed.grace allowed.grace more.grace))))
+      (grace_permits_more claim.settings.slack settings.slack more.slack (allowed_staleness wider state) (allowed_staleness claim state) (staleness_less state)
+      claim.settings.allowed.grace settings.allowed.grace more.allowed.grace))))
       is
 
   use_more : (state : Stored) → use_is_allowed claim state ≡ true → use_is_allowed wider state ≡ true
   unfolding wider
-  use_more state is = or_more (is_usable claim state) (is_allowed_usable claim state) (is_usable claim state) (is_allowed_usable wider state) same (usable_more state) is
+  use_more state is = or_more (is_usable claim state) (is_allowed_usable claim state) (is_usable wider state) (is_allowed_usable wider state) (strictly_usable_more state) (usable_more state) is
 
   part_more : asks_for_part claim ≡ true → asks_for_part wider ≡ true
   unfolding wider
-  part_more is = and_more _ _ _ _ (and_more _ _ _ _ more.ranges same) same is
+  part_more is = and_more _ _ _ _ (and_more _ _ _ _ more.allowed.ranges same) same is
 
   no_part_more : (status : ℕ) (body : List ℕ) → is_no_part claim status body ≡ true → is_no_part wider status body ≡ true
   unfolding wider
@@ -291,16 +311,30 @@ module _ (claim : Claim) (allowed : Allowed) (more : AllowsMore allowed claim.se
   unfolding wider
   is_part_more status body is = and_more _ _ _ _ (and_more _ _ _ _ (and_more _ _ _ _ part_more same) same) same is
 
+  exempt_more : (name : List ℕ) → is_exempt claim name ≡ true → is_exempt wider name ≡ true
+  unfolding wider
+  exempt_more name is = or_more _ _ _ _ same (more.ignored name) is
+
   values_more : (state : Stored) (name : List ℕ) → has_its_values claim state name ≡ true → has_its_values wider state name ≡ true
   unfolding wider
   values_more state name is =
-      or_more _ _ _ _ (or_more _ _ _ _ same (and_more _ _ _ _ (and_more _ _ _ _ more.added_fields same) same))
-      (and_more _ _ _ _ (and_more _ _ _ _ (and_more _ _ _ _ more.joined_lines same) same) same) is
+      or_more _ _ _ _ (or_more _ _ _ _ (or_more _ _ _ _ (exempt_more name) same) (and_more _ _ _ _ (and_more _ _ _ _ more.allowed.added_fields same) same))
+      (and_more _ _ _ _ (and_more _ _ _ _ (and_more _ _ _ _ more.allowed.joined_lines same) same) same) is
+
+  age_more : (age : ℕ) (told : Option ℕ) → is_age claim age told ≡ true → is_age wider age told ≡ true
+  unfolding wider
+  age_more age None is = is
+  age_more age (Some told) is = within_more claim.settings.slack settings.slack told age more.slack is
 
   near_more : (age : ℕ) (told : Option ℕ) → is_near_age claim age told ≡ true → is_near_age wider age told ≡ true
   unfolding wider
   near_more age None is = is
-  near_more age (Some told) is = within_more claim.settings.allowed.age_slack allowed.age_slack told age more.age_slack is
+  near_more age (Some told) is = within_more claim.settings.allowed.age_slack settings.allowed.age_slack told age more.allowed.age_slack is
+
+  ttl_more : (left : ℤ) (told : Option ℤ) → is_ttl claim left told ≡ true → is_ttl wider left told ≡ true
+  unfolding wider
+  ttl_more left None is = is
+  ttl_more left (Some told) is = le_more (nat_abs (told -ℤ left)) claim.settings.slack settings.slack more.slack is
 
   filters_more : (kept : Kept) → Implies (filters claim kept) (filters wider kept)
   unfolding wider
@@ -308,7 +342,7 @@ module _ (claim : Claim) (allowed : Allowed) (more : AllowsMore allowed claim.se
     same,
     (
       all_more (is_met_or_normalized claim kept.state) (is_met_or_normalized wider kept.state)
-          (λ member. or_more _ _ _ _ same (and_more _ _ _ _ (more.normalized member) same)) (members_of (codes "vary") kept.state.fields),
+          (λ member. or_more _ _ _ _ same (and_more _ _ _ _ (more.allowed.normalized member) same)) (members_of (codes "vary") kept.state.fields),
       (
         same,
         (
@@ -320,7 +354,10 @@ module _ (claim : Claim) (allowed : Allowed) (more : AllowsMore allowed claim.se
               (
                 or_more _ _ _ _ (all_more (has_its_values claim kept.state) (has_its_values wider kept.state) (values_more kept.state) (compared_names claim kept.state))
                     (no_part_more kept.state.status kept.state.body),
-                (or_more _ _ _ _ same (near_more (age_of claim kept.state) _), (or_more _ _ _ _ same (default_more kept.state), tt)),
+                (
+                  or_more _ _ _ _ (age_more (age_of claim kept.state) _) (near_more (age_of claim kept.state) _),
+                  (or_more _ _ _ _ (ttl_more _ claim.ttl) (default_more kept.state), tt),
+                ),
               ),
             ),
           ),
@@ -380,38 +417,25 @@ module _ (claim : Claim) (allowed : Allowed) (more : AllowsMore allowed claim.se
   right_by_more (Hit ttl) h pass = pass_more 9 Any h pass
   right_by_more (Forwarded collapsed) h right = forwarded_more (is_judged_collapsed claim.format collapsed) h right
   right_by_more Both h right = right
-  right_by_more Unmarked h right = right
+  right_by_more Unmarked h right = unmarked_more claim.settings.unmarked settings.unmarked more.unmarked claim.reply.head.status right
 
 -- ---- of settings
 
--- the settings of an audit that allows more differ in that alone
-with_more : (more less : Settings) → LetsPassMore more less → (
-    let it : Settings = record { slack = less.slack; ignored = less.ignored; unmarked = less.unmarked; allowed = more.allowed } in it) ≡ more
-with_more more less lets = λ i. record {
-  slack = sym lets.slack i;
-  ignored = sym lets.ignored i;
-  unmarked = sym lets.unmarked i;
-  allowed = more.allowed;
-}
-
-module _ (format : Format) (less : Settings) (allowed : Allowed) (more : AllowsMore allowed less.allowed) where
-  abbrev widened : Settings
-  widened = record { slack = less.slack; ignored = less.ignored; unmarked = less.unmarked; allowed = allowed }
-
-  same_infers : (forwarded : Bool) (reply : Message ResponseHead) → infers format allowed forwarded reply ≡ infers format less.allowed forwarded reply
+module _ (format : Format) (less settings : Settings) (more : LetsPassMore settings less) where
+  same_infers : (forwarded : Bool) (reply : Message ResponseHead) → infers format settings.allowed forwarded reply ≡ infers format less.allowed forwarded reply
   same_infers forwarded reply =
       ap (λ (b : Bool). b && tells_causes format && says_nothing (mark_of reply.head.fields) && nat_lt reply.head.status 400 && (forwarded || not (reply.head.status == partial_content)))
-      more.inferred_marks
+      more.allowed.inferred_marks
 
-  same_mark_by : (forwarded : Bool) (reply : Message ResponseHead) → mark_by format allowed forwarded reply ≡ mark_by format less.allowed forwarded reply
+  same_mark_by : (forwarded : Bool) (reply : Message ResponseHead) → mark_by format settings.allowed forwarded reply ≡ mark_by format less.allowed forwarded reply
   same_mark_by forwarded reply = ap (λ (b : Bool). if b then inferred_mark forwarded else reply_mark reply) (same_infers forwarded reply)
 
-  same_mark_to : (o : Option Exchange) (reply : Message ResponseHead) (h : List Item) → mark_to format widened o reply h ≡ mark_to format less o reply h
+  same_mark_to : (o : Option Exchange) (reply : Message ResponseHead) (h : List Item) → mark_to format settings o reply h ≡ mark_to format less o reply h
   same_mark_to None reply h = refl
   same_mark_to (Some exchange) reply h = same_mark_by (has_forward exchange h) reply
 
   same_claim : (exchange : Exchange) (moment : ℕ) (reply : Message ResponseHead) (h : List Item)
-      → allowing allowed (claim_of format less exchange moment reply h) ≡ claim_of format widened exchange moment reply h
+      → under settings (claim_of format less exchange moment reply h) ≡ claim_of format settings exchange moment reply h
   same_claim exchange moment reply h = λ i. record {
     format = format;
     exchange = exchange.number;
@@ -424,44 +448,43 @@ module _ (format : Format) (less : Settings) (allowed : Allowed) (more : AllowsM
     ttl = (claim_of format less exchange moment reply h).ttl;
     has_error = (claim_of format less exchange moment reply h).has_error;
     has_failure = (claim_of format less exchange moment reply h).has_failure;
-    settings = widened;
+    settings = settings;
   }
 
-  right_to_more : (o : Option Exchange) (moment : ℕ) (reply : Message ResponseHead) (h : List Item) → IsRightTo format less o moment reply h → IsRightTo format widened o moment reply h
+  right_to_more : (o : Option Exchange) (moment : ℕ) (reply : Message ResponseHead) (h : List Item) → IsRightTo format less o moment reply h → IsRightTo format settings o moment reply h
   unfolding wider
   right_to_more None moment reply h right = right
   right_to_more (Some exchange) moment reply h right =
       let claim = claim_of format less exchange moment reply h in
       let mark = mark_to format less (Some exchange) reply h in
-      subst (λ (m : Mark). IsRightBy m (claim_of format widened exchange moment reply h) h) (sym (same_mark_to (Some exchange) reply h))
-      (subst (λ (c : Claim). IsRightBy mark c h) (same_claim exchange moment reply h) (right_by_more claim allowed more mark h right))
+      subst (λ (m : Mark). IsRightBy m (claim_of format settings exchange moment reply h) h) (sym (same_mark_to (Some exchange) reply h))
+      (subst (λ (c : Claim). IsRightBy mark c h) (same_claim exchange moment reply h) (right_by_more claim settings more mark h right))
 
-  right_widened : (h : List Item) (item : Item) → IsRight format less h item → IsRight format widened h item
+  right_widened : (h : List Item) (item : Item) → IsRight format less h item → IsRight format settings h item
   right_widened h (ClientReply number moment reply) right = right_to_more (exchange_of number h) moment reply h right
   right_widened h item right = tt
 
-  all_widened : (h : List Item) → AllRight format less h → AllRight format widened h
+  all_widened : (h : List Item) → AllRight format less h → AllRight format settings h
   all_widened [] all = tt
   all_widened (item ∷ h) all = (all_widened h all.0, right_widened h item all.1)
 
-  same_item_mark : (h : List Item) (item : Item) → item_mark format less h item ≡ item_mark format widened h item
+  same_item_mark : (h : List Item) (item : Item) → item_mark format less h item ≡ item_mark format settings h item
   same_item_mark h (ClientReply number moment reply) = ap Some (sym (same_mark_to (exchange_of number h) reply h))
   same_item_mark h item = refl
 
-  same_counts : (h : List Item) → counts_of format less h ≡ counts_of format widened h
+  same_counts : (h : List Item) → counts_of format less h ≡ counts_of format settings h
   same_counts [] = refl
   same_counts (item ∷ h) = λ i. marked (same_item_mark h item i) (one_more (same_counts h i))
 
 pub right_more : (format : Format) (more less : Settings) (h : List Item) (item : Item) → LetsPassMore more less → IsRight format less h item → IsRight format more h item
-right_more format more less h item lets right =
-    subst (λ (s : Settings). IsRight format s h item) (with_more more less lets) (right_widened format less more.allowed lets.allowed h item right)
+right_more format more less h item lets right = right_widened format less more lets h item right
 
 pub yes_more : (octets : List ℕ) (more less : Settings) (counts : Counts) → LetsPassMore more less → IsAllRight octets less counts → IsAllRight octets more counts
-yes_more octets more less counts lets y = subst (λ (s : Settings). IsAllRight octets s counts) (with_more more less lets) (record {
+yes_more octets more less counts lets y = record {
   format = y.format;
   records = y.records;
   history = y.history;
   is_transcript = y.is_transcript;
-  all_right = all_widened y.format less more.allowed lets.allowed y.history y.all_right;
-  counts_are = y.counts_are ∙ same_counts y.format less more.allowed lets.allowed y.history;
-})
+  all_right = all_widened y.format less more lets y.history y.all_right;
+  counts_are = y.counts_are ∙ same_counts y.format less more lets y.history;
+}

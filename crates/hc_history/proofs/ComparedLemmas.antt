@@ -1,8 +1,11 @@
 -- The names that are compared are those of the reply, and then the others.
-use Rattle.std.proofs.Common.{◌≡◌, ℕ, ◌==◌, ◌&&◌, ◌++◌, Bool, true, false, List, if◌then◌else◌, ap, sym, ◌∙◌}
+use Rattle.std.proofs.Common.{◌≡◌, ℕ, ◌==◌, ◌&&◌, ◌||◌, ◌++◌, Bool, true, false, List, [], ◌∷◌, if◌then◌else◌, refl, ap, subst, sym, ◌∙◌}
 use Rattle.std.specs.List.{list_all}
+use Rattle.std.specs.Str.{bytes_eq}
 use Rattle.std.proofs.lemmas.List.Folds.{list_all-append, list_all-map}
+use Rattle.std.proofs.lemmas.Slice.Eq.{bytes_eq-Decides}
 use Rattle.hc_fields.specs.declared.fields.Field.{Field}
+use Rattle.hc_fields.specs.Values.{has_name, line}
 use Rattle.hc_update.specs.declared.stored.Stored.{Stored}
 use Rattle.hc_history.specs.Claims.{Claim}
 use Rattle.hc_head.specs.Statuses.{not_modified}
@@ -48,3 +51,35 @@ fields_of_other claim state e is =
     sym (there claim state e
     ∙ ap (λ (b : Bool). list_all (has_its_values claim state) (if b then repeated_names else names_of state.fields)) is
     ∙ list_all-map (has_its_values claim state) (λ (f : Field). f.name) state.fields)
+
+-- what isn't compared may be looked at in another order
+pub exempt_in_any_order : (a b c : Bool) → (b || c || a) ≡ (a || b || c)
+exempt_in_any_order true true true = refl
+exempt_in_any_order true true false = refl
+exempt_in_any_order true false true = refl
+exempt_in_any_order true false false = refl
+exempt_in_any_order false true true = refl
+exempt_in_any_order false true false = refl
+exempt_in_any_order false false true = refl
+exempt_in_any_order false false false = refl
+
+-- where the reply has the values of each of those lines, it has those of a name that one of them has
+pub values_of_own : (claim : Claim) (state : Stored) (name : List ℕ) (lines : List Field) → has_lines claim state lines ≡ true
+    → has_name name lines ≡ true → has_its_values claim state name ≡ true
+values_of_own claim state name [] all there = absurd (cc)
+values_of_own claim state name (x ∷ xs) all there =
+    go (bytes_eq x.name name) (has_its_values claim state x.name) refl refl (values_of_own claim state name xs) all there
+  where
+    go : (same has : Bool) → bytes_eq x.name name ≡ same → has_its_values claim state x.name ≡ has
+        → (has_lines claim state xs ≡ true → has_name name xs ≡ true → has_its_values claim state name ≡ true)
+        → (has && has_lines claim state xs) ≡ true → (same || has_name name xs) ≡ true → has_its_values claim state name ≡ true
+    go true true s h behind a t = subst (λ (n : List ℕ). has_its_values claim state n ≡ true) ((bytes_eq-Decides x.name name).0 s) h
+    go true false s h behind a t = absurd (cc)
+    go false true s h behind a t = behind a t
+    go false false s h behind a t = absurd (cc)
+
+-- where the reply has the values of a line's name, the lines behind it decide
+pub line_passed : (claim : Claim) (state : Stored) (name value : List ℕ) (lines rest : List Field) → lines ≡ line name value ∷ rest
+    → has_its_values claim state name ≡ true → has_lines claim state rest ≡ has_lines claim state lines
+line_passed claim state name value lines rest is has =
+    sym (ap (λ (fs : List Field). has_lines claim state fs) is ∙ ap (λ (b : Bool). b && has_lines claim state rest) has)

@@ -1,9 +1,11 @@
 -- What an audit allows beside its strict rules.
 use Rattle.std.specs.Prelude.{◌≡◌, ℕ, ◌≤◌, Bool, true, false, List, [], Option, Some, None}
 use Rattle.std.specs.List.{list_any}
-use Rattle.std.specs.Str.{str_eq_ignore_ascii_case}
+use Rattle.std.specs.Str.{bytes_eq, str_eq_ignore_ascii_case}
 use Rattle.hc_history.specs.declared.allowed.Allowed.{Allowed}
 use Rattle.hc_history.specs.declared.settings.Settings.{Settings}
+use Rattle.hc_history.specs.declared.settings.UnmarkedReplies.{UnmarkedReplies}
+use Rattle.hc_history.specs.declared.settings.UnmarkedReplies.TheVariants.{Allow, ErrorsOnly}
 
 -- nothing, but that marks are inferred if that is asked for
 abbrev pub nothing_but_marks : Bool → Allowed
@@ -45,9 +47,16 @@ pub record AllowsMore (more less : Allowed) : Type 0 where
   pub inferred_marks : more.inferred_marks ≡ less.inferred_marks
   pub age_slack : less.age_slack ≤ more.age_slack
 
--- one audit lets pass what the other lets pass, and allows more beside the strict rules
+-- no reply may be unmarked by the one that may not by the other
+abbrev pub UnmarkedAtMost : UnmarkedReplies → UnmarkedReplies → Type 0
+UnmarkedAtMost ErrorsOnly more = Unit {0}
+UnmarkedAtMost Allow ErrorsOnly = ⊥
+UnmarkedAtMost Allow Allow = Unit {0}
+
+-- one audit lets pass what the other lets pass: it has as much slack at least, ignores what the other ignores, lets as many replies be unmarked, and allows
+-- more beside the strict rules
 pub record LetsPassMore (more less : Settings) : Type 0 where
-  pub slack : more.slack ≡ less.slack
-  pub ignored : more.ignored ≡ less.ignored
-  pub unmarked : more.unmarked ≡ less.unmarked
+  pub slack : less.slack ≤ more.slack
+  pub ignored : (name : List ℕ) → list_any (λ known. bytes_eq known name) less.ignored ≡ true → list_any (λ known. bytes_eq known name) more.ignored ≡ true
+  pub unmarked : UnmarkedAtMost less.unmarked more.unmarked
   pub allowed : AllowsMore more.allowed less.allowed

@@ -1,6 +1,7 @@
 //! What an audit allows beside the strict rules: what selects, what may be used, and the Age.
 
 ghost use Rattle.std.specs.Prelude.{◌≡◌, IfOk};
+ghost use Rattle.hc_fresh.specs.Lifetimes.{freshness_stated};
 ghost use Rattle.hc_history.specs.Allowed.{is_named};
 ghost use Rattle.hc_history.specs.Allowing.{allowed_lifetime, allowed_staleness, at_least, grace_permits, is_allowed_fresh, is_allowed_stale, is_allowed_usable, is_met_or_normalized, is_near_age, is_normalized, lifetime_is_allowed, selection_is_allowed, takes_default, use_is_allowed, widens_use};
 
@@ -8,8 +9,8 @@ use crate::allowed::Allowed;
 use crate::claim::ReplyClaim;
 use crate::filters::within;
 use crate::settings::FieldNames;
-use crate::usable::{age_of, is_usable, lifetime_of, permits_staleness};
-use hc_fresh::{explicit, says, stale_forbidden, staleness};
+use crate::usable::{age_of, freshness_of, is_usable, lifetime_of, permits_staleness};
+use hc_fresh::{Freshness, explicit, says, stale_forbidden, staleness};
 use hc_rules::{is_heuristically_cacheable, is_met};
 use hc_update::Stored;
 use std::alloc::{AllocError, Global};
@@ -148,14 +149,23 @@ fn is_allowed_usable(claim: &ReplyClaim<'_>, state: &Stored) -> bool
 pub fn use_is_allowed(claim: &ReplyClaim<'_>, state: &Stored) -> bool
     ensures { result ≡ use_is_allowed claim.now state.now }
 {
-    is_usable(claim, state) || is_allowed_usable(claim, state)
+    may_be_used(claim, state, freshness_of(state))
 }
 
-/// Whether it states a lifetime, or may be used without (RFC 9111 section 4.2.1).
-pub(crate) fn lifetime_is_allowed(claim: &ReplyClaim<'_>, state: &Stored) -> bool
+/// The same, where what it states of its freshness is known.
+pub(crate) fn may_be_used(claim: &ReplyClaim<'_>, state: &Stored, stated: Freshness) -> bool
+    requires { stated ≡ freshness_stated state.now.fields state.now.times.date }
+    ensures { result ≡ use_is_allowed claim.now state.now }
+{
+    is_usable(claim, state, stated) || is_allowed_usable(claim, state)
+}
+
+/// Whether it states a lifetime, or may be used without (RFC 9111 section 4.2.1); what it states is known.
+pub(crate) fn lifetime_is_allowed(claim: &ReplyClaim<'_>, state: &Stored, stated: Freshness) -> bool
+    requires { stated ≡ freshness_stated state.now.fields state.now.times.date }
     ensures { result ≡ lifetime_is_allowed claim.now state.now }
 {
-    explicit(&state.fields) || use_is_allowed(claim, state)
+    stated.is_explicit || may_be_used(claim, state, stated)
 }
 
 /// Whether an Age tells that age, give or take what is allowed beside the slack.

@@ -1,6 +1,6 @@
 //! Whether a reply has the fields of a stored response.
 
-ghost use Rattle.std.specs.Prelude.{◌≡◌, ◌==◌, not, IfOk};
+ghost use Rattle.std.specs.Prelude.{◌≡◌, ◌==◌, not, true, IfOk};
 ghost use Rattle.std.specs.Option.{option_eq};
 ghost use Rattle.std.specs.List.{list_all, list_any};
 ghost use Rattle.std.specs.Str.{bytes_eq};
@@ -44,12 +44,14 @@ fn is_rewritten(name: &[u8]) -> bool
 }
 
 /// Whether a field isn't compared.
+#[tactic(auto, using(crate::proofs::ComparedLemmas::exempt_in_any_order))]
 fn is_exempt(claim: &ReplyClaim<'_>, name: &[u8]) -> bool
     ensures { result ≡ is_exempt claim.now name.now }
 {
-    claim.fields().left_out_of_store(name)
-        || is_rewritten(name)
+    // What Connection names takes a walk over the lines, so that is looked at last.
+    is_rewritten(name)
         || claim.settings.ignored.contains(name)
+        || claim.fields().left_out_of_store(name)
 }
 
 /// Whether both have the same list of values of a name.
@@ -165,6 +167,25 @@ fn has_its_lines(
     Ok(true)
 }
 
+/// Whether the reply has the values of each of the stored response's names that is compared, where it has those of its
+/// own: of these none is looked at again.
+fn has_lines_besides(
+    alloc: Global,
+    claim: &ReplyClaim<'_>,
+    state: &Stored,
+) -> Result<bool, AllocError>
+    requires { list_all (λ line. has_its_values claim.now state.now line.name) claim.now.reply.head.fields ≡ true }
+    ensures { IfOk result (λ has. has ≡ list_all (λ line. has_its_values claim.now state.now line.name) state.now.fields) }
+{
+    let mut rest = state.fields.lent();
+    while let Some((name, _)) = rest.pass() {
+        if !claim.fields().contains(name) && !has_its_values(alloc, claim, state, name)? {
+            return Ok(false);
+        }
+    }
+    Ok(true)
+}
+
 /// Whether the reply has the values of each of those names that is compared.
 fn has_each(
     alloc: Global,
@@ -199,6 +220,6 @@ pub(crate) fn has_allowed_fields(
     if is_not_modified(claim) {
         has_each(alloc, claim, state, &REPEATED_NAMES)
     } else {
-        has_its_lines(alloc, claim, state, &state.fields.lent())
+        has_lines_besides(alloc, claim, state)
     }
 }

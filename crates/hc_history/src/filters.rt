@@ -9,12 +9,12 @@ ghost use Rattle.hc_history.specs.Furthest.{passed};
 ghost use Rattle.hc_history.specs.Usable.{age_of, lifetime_of};
 
 use crate::allowing::{
-    is_near_age, lifetime_is_allowed, selection_is_allowed, takes_default, use_is_allowed,
+    is_near_age, lifetime_is_allowed, may_be_used, selection_is_allowed, takes_default,
 };
 use crate::claim::{ReplyClaim, asks_head};
 use crate::compared::{has_allowed_fields, is_not_modified};
 use crate::ranges::is_no_part;
-use crate::usable::{age_of, lifetime_of};
+use crate::usable::{age_of, freshness_of};
 use hc_fields::number;
 use hc_head::{Target, is_get, same_target};
 use hc_rules::client_condition;
@@ -129,29 +129,30 @@ fn is_ttl(claim: &ReplyClaim<'_>, left: i64, told: i64) -> bool
     told.abs_diff(left) <= u64::from(claim.settings.slack)
 }
 
-/// The seconds for which a stored response is fresh still, negative where it is stale.
-fn seconds_left(claim: &ReplyClaim<'_>, state: &Stored) -> i64
-    ensures { result ≡ pos (lifetime_of state.now) -ℤ pos (age_of claim.now state.now) }
+/// The seconds for which a stored response of that lifetime is fresh still, negative where it is stale.
+fn seconds_left(claim: &ReplyClaim<'_>, state: &Stored, lifetime: u32) -> i64
+    ensures { result ≡ pos lifetime -ℤ pos (age_of claim.now state.now) }
 {
-    i64::from(lifetime_of(state)) - i64::from(age_of(claim, state))
+    i64::from(lifetime) - i64::from(age_of(claim, state))
 }
 
 /// Whether the reply's mark tells the seconds for which it is fresh still, if it tells any (RFC 9211 section 2.4).
-fn has_its_ttl(claim: &ReplyClaim<'_>, state: &Stored) -> bool
+fn has_its_ttl(claim: &ReplyClaim<'_>, state: &Stored, lifetime: u32) -> bool
+    requires { lifetime ≡ lifetime_of state.now }
     ensures { result ≡ has_its_ttl claim.now state.now }
 {
-    // What is left is worked out of the directives, so only where the mark tells it.
     match claim.ttl {
-        Some(told) => is_ttl(claim, seconds_left(claim, state), told),
+        Some(told) => is_ttl(claim, seconds_left(claim, state, lifetime), told),
         None => true,
     }
 }
 
 /// Whether the mark tells those seconds, or they are those of a default lifetime.
-fn ttl_is_allowed(claim: &ReplyClaim<'_>, state: &Stored) -> bool
+fn ttl_is_allowed(claim: &ReplyClaim<'_>, state: &Stored, lifetime: u32) -> bool
+    requires { lifetime ≡ lifetime_of state.now }
     ensures { result ≡ ttl_is_allowed claim.now state.now }
 {
-    has_its_ttl(claim, state) || takes_default(claim, state)
+    has_its_ttl(claim, state, lifetime) || takes_default(claim, state)
 }
 
 /// How many filters a stored response of that target passes, one after another, from the first on. It
@@ -173,10 +174,11 @@ pub fn passed(
     if !is_valid(state) {
         return Ok(2);
     }
-    if !lifetime_is_allowed(claim, state) {
+    let stated = freshness_of(state);
+    if !lifetime_is_allowed(claim, state, stated) {
         return Ok(3);
     }
-    if !use_is_allowed(claim, state) {
+    if !may_be_used(claim, state, stated) {
         return Ok(4);
     }
     if !body_is_allowed(claim, state) {
@@ -188,7 +190,7 @@ pub fn passed(
     if !age_is_allowed(claim, state) {
         return Ok(7);
     }
-    if !ttl_is_allowed(claim, state) {
+    if !ttl_is_allowed(claim, state, stated.lifetime) {
         return Ok(8);
     }
     Ok(9)

@@ -113,8 +113,8 @@ pub fn nothing_allowed_is_strict()
         → is_forwarded claim h ≡ is_answered claim h }
 {}
 
-/// A reply that is right is right, too, where more is allowed, and for as many seconds at least; so a yes stays
-/// one, with the same counts.
+/// A reply that is right is right, too, where more is let pass: with more slack, with more names that aren't compared,
+/// or with more allowed, and for as many seconds at least; so a yes stays one, with the same counts.
 pub fn more_allowed_keeps_right()
     ensures right { (format : Format) (more less : Settings) (h : List Item) (item : Item) → LetsPassMore more less
         → IsRight format less h item → IsRight format more h item }

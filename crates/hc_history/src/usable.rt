@@ -1,13 +1,15 @@
 //! Whether a stored response may be used for a reply (RFC 9111 section 4).
 
-ghost use Rattle.std.specs.Prelude.{◌≡◌, ◌&&◌, ◌||◌, codes};
-ghost use Rattle.hc_fresh.specs.Lifetimes.{says, seconds_said};
+ghost use Rattle.std.specs.Prelude.{◌≡◌, ◌+◌, ◌&&◌, ◌||◌, nat_lt, codes};
+ghost use Rattle.hc_fresh.specs.Lifetimes.{freshness_stated, seconds_said};
 ghost use Rattle.hc_history.specs.Usable.{age_of, error_permits, is_fresh_within, is_usable, lifetime_of, max_stale_permits, meanwhile_permits, permits, permits_stale, permits_staleness, request_permits, staleness_at, validated_since};
 
 use crate::claim::ReplyClaim;
 use hc_directives::Seconds;
 use hc_fields::Fields;
-use hc_fresh::{current_age, lifetime, says, seconds_said, stale_forbidden, staleness};
+use hc_fresh::{
+    Freshness, current_age, freshness_stated, lifetime, seconds_said, stale_forbidden, staleness,
+};
 use hc_update::Stored;
 
 /// The freshness lifetime of a stored response (RFC 9111 section 4.2.1).
@@ -15,6 +17,13 @@ pub fn lifetime_of(state: &Stored) -> u32
     ensures { result ≡ lifetime_of state.now }
 {
     lifetime(&state.fields, state.times.date)
+}
+
+/// What it states of its freshness, read at once.
+pub(crate) fn freshness_of(state: &Stored) -> Freshness
+    ensures { result ≡ freshness_stated state.now.fields state.now.times.date }
+{
+    freshness_stated(&state.fields, state.times.date)
 }
 
 /// Its age at the moment of the reply (RFC 9111 section 4.2.3).
@@ -118,19 +127,26 @@ pub fn validated_since(since: u64, validated_at: Option<u64>) -> bool
     }
 }
 
+/// Whether its age is within that lifetime, give or take the slack.
+fn is_within(claim: &ReplyClaim<'_>, state: &Stored, lifetime: u32) -> bool
+    ensures { result ≡ nat_lt (age_of claim.now state.now) (lifetime + claim.now.settings.slack) }
+{
+    u64::from(age_of(claim, state)) < u64::from(lifetime) + u64::from(claim.settings.slack)
+}
+
 /// Whether it is fresh, give or take the slack.
 pub fn is_fresh_within(claim: &ReplyClaim<'_>, state: &Stored) -> bool
     ensures { result ≡ is_fresh_within claim.now.settings.slack state.now claim.now.moment }
 {
-    u64::from(age_of(claim, state))
-        < u64::from(lifetime_of(state)) + u64::from(claim.settings.slack)
+    is_within(claim, state, lifetime_of(state))
 }
 
-/// Whether it may be used for the reply.
-pub(crate) fn is_usable(claim: &ReplyClaim<'_>, state: &Stored) -> bool
+/// Whether it may be used for the reply; what it states of its freshness is known.
+pub(crate) fn is_usable(claim: &ReplyClaim<'_>, state: &Stored, stated: Freshness) -> bool
+    requires { stated ≡ freshness_stated state.now.fields state.now.times.date }
     ensures { result ≡ is_usable claim.now state.now }
 {
     validated_since(claim.since, state.validated_at)
-        || (!says(b"no-cache", &state.fields)
-            && (is_fresh_within(claim, state) || permits_stale(claim, state)))
+        || (!stated.no_cache
+            && (is_within(claim, state, stated.lifetime) || permits_stale(claim, state)))
 }

@@ -8,7 +8,8 @@ use crate::tags::{Class, Tag};
 use std::alloc::{AllocError, Global};
 use std::fmt::Write;
 
-/// A document that grows. Where memory is refused for a piece of it, the whole is never given: `into_document` answers that.
+/// A document that grows. Where memory is refused for a piece of it, the whole is never given:
+/// `into_document` returns that.
 pub struct Html {
     alloc: Global,
     text: String,

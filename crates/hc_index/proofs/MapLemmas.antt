@@ -21,7 +21,7 @@ use Rattle.hc_history.specs.Windows.{may_be_for, is_forward_of}
 use Rattle.hc_history.specs.Seen.{live_at, WindowResponse}
 use Rattle.hc_history.specs.Noting.{live_answered, lives_answered, added_to_window, Notes}
 use Rattle.hc_head.proofs.SameTargetLemmas.{same_target_one}
-use Rattle.hc_index.specs.declared.kept.OpenForward.{OpenForward}
+use Rattle.hc_index.specs.declared.kept.RecordedForward.{RecordedForward}
 use Rattle.hc_index.specs.declared.kept.PooledExchange.{PooledExchange}
 use Rattle.hc_index.specs.declared.at_target.AtTarget.{AtTarget}
 use Rattle.hc_index.specs.declared.map_index.MapIndex.{MapIndex}
@@ -145,8 +145,8 @@ notes_request format old number position moment request x new asks is =
       live = λ t. same_at target t old.targets new.targets R live_kept asks.targets (λ o n opens. opens.live);
       exchange = λ e. asked_exchange old number x new asks e
           ∙ ap (λ (exchange : Exchange). cond (eqb number e) (Some exchange) (pooled_exchange (known_in old.targets e (get nat_cmp old.exchanges e)))) is;
-      forward = λ f. ap (λ (m : BTreeMap ℕ OpenForward). option_map forward_seen (get nat_cmp m f)) asks.forwards;
-      cause = λ f. ap (λ (m : BTreeMap ℕ OpenForward). cause_seen (get nat_cmp m f)) asks.forwards;
+      forward = λ f. ap (λ (m : BTreeMap ℕ RecordedForward). option_map forward_seen (get nat_cmp m f)) asks.forwards;
+      cause = λ f. ap (λ (m : BTreeMap ℕ RecordedForward). cause_seen (get nat_cmp m f)) asks.forwards;
       window = asked_window old number x new asks;
       has_forward = asks.forwarded;
       error = λ t. same_at target t old.targets new.targets R (λ k. error_kept) asks.targets (λ o n opens. opens.error);
@@ -195,8 +195,8 @@ notes_reply format old number position moment reply target new replies =
     record {
       live = λ t. same_at target t old.targets new.targets R live_kept replies.targets (λ o n closes. closes.live);
       exchange = replied_exchange old number target new replies;
-      forward = λ f. ap (λ (m : BTreeMap ℕ OpenForward). option_map forward_seen (get nat_cmp m f)) replies.forwards;
-      cause = λ f. ap (λ (m : BTreeMap ℕ OpenForward). cause_seen (get nat_cmp m f)) replies.forwards;
+      forward = λ f. ap (λ (m : BTreeMap ℕ RecordedForward). option_map forward_seen (get nat_cmp m f)) replies.forwards;
+      cause = λ f. ap (λ (m : BTreeMap ℕ RecordedForward). cause_seen (get nat_cmp m f)) replies.forwards;
       window = replied_window old number target new replies;
       has_forward = replies.forwarded;
       error = λ t. same_at target t old.targets new.targets R (λ k. error_kept) replies.targets (λ o n closes. closes.error);
@@ -206,14 +206,14 @@ notes_reply format old number position moment reply target new replies =
 -- ---- failures
 
 -- what a failure of an open forward makes of all that is kept
-pub record Fails (old : MapIndex) (forward : OpenForward) (number position : ℕ) (new : MapIndex) : Type 0 where
+pub record Fails (old : MapIndex) (forward : RecordedForward) (number position : ℕ) (new : MapIndex) : Type 0 where
   pub was_open : get nat_cmp old.forwards number ≡ Some forward
   pub forwards : ReplacesForward number None old.forwards new.forwards
   pub targets : ChangesAt forward.target old.targets new.targets (FailsAt forward.target position)
   pub exchanges : new.exchanges ≡ old.exchanges
   pub forwarded : new.forwarded ≡ old.forwarded
 
-pub notes_failure : (format : Format) (old : MapIndex) (forward : OpenForward) (number position moment : ℕ) (new : MapIndex) → Fails old forward number position new
+pub notes_failure : (format : Format) (old : MapIndex) (forward : RecordedForward) (number position moment : ℕ) (new : MapIndex) → Fails old forward number position new
     → Notes format (seen_in old) position (OriginFailure number moment) (seen_in new)
 notes_failure format old forward number position moment new fails =
     let target = forward.target in
@@ -237,7 +237,7 @@ notes_failure format old forward number position moment new fails =
 -- ---- responses
 
 -- what a response to an open forward makes of all that is kept
-pub record Answers (format : Format) (old : MapIndex) (forward : OpenForward) (number position moment : ℕ) (response : Message ResponseHead) (new : MapIndex) : Type 0 where
+pub record Answers (format : Format) (old : MapIndex) (forward : RecordedForward) (number position moment : ℕ) (response : Message ResponseHead) (new : MapIndex) : Type 0 where
   pub was_open : get nat_cmp old.forwards number ≡ Some forward
   pub forwards : ReplacesForward number None old.forwards new.forwards
   pub targets : ChangesAt forward.target old.targets new.targets (AnswersAt (forward_seen forward) (told_in format forward.cause) position moment response)
@@ -331,7 +331,7 @@ two_tests true false p q = refl
 two_tests false true p q = refl
 two_tests false false p q = refl
 
-pub notes_response : (format : Format) (old : MapIndex) (forward : OpenForward) (number position moment : ℕ) (response : Message ResponseHead) (new : MapIndex)
+pub notes_response : (format : Format) (old : MapIndex) (forward : RecordedForward) (number position moment : ℕ) (response : Message ResponseHead) (new : MapIndex)
     → Answers format old forward number position moment response new → Notes format (seen_in old) position (OriginResponse number moment response) (seen_in new)
 notes_response format old forward number position moment response new answers =
     let seen = forward_seen forward in

@@ -20,7 +20,7 @@ use Rattle.hc_history.specs.Windows.{is_forward_of}
 use Rattle.hc_history.specs.Seen.{Live, live_at}
 use Rattle.hc_history.specs.Noting.{live_answered, lives_answered, added_to_window, Notes}
 use Rattle.hc_index.specs.declared.kept.LiveResponse.{LiveResponse}
-use Rattle.hc_index.specs.declared.kept.OpenForward.{OpenForward}
+use Rattle.hc_index.specs.declared.kept.RecordedForward.{RecordedForward}
 use Rattle.hc_index.specs.declared.list_index.ListIndex.{ListIndex}
 use Rattle.hc_index.specs.Lists.{watched_exchange, forward_seen, cause_seen, live_in, open_in, window_of, position_in, watched, watched_answered, targeted, targeted_answered, seen_in}
 use Rattle.hc_index.proofs.OpenLemmas.{exchange_answered, window_answered}
@@ -28,23 +28,23 @@ use Rattle.hc_index.proofs.LiveLemmas.{lives_answered_in}
 
 -- ---- forwards
 
-forward_if : (b : Bool) (x o : Option OpenForward) → option_map forward_seen (cond b x o) ≡ cond b (option_map forward_seen x) (option_map forward_seen o)
+forward_if : (b : Bool) (x o : Option RecordedForward) → option_map forward_seen (cond b x o) ≡ cond b (option_map forward_seen x) (option_map forward_seen o)
 forward_if true x o = refl
 forward_if false x o = refl
 
 -- the forwards before and after, where the one of a number was replaced
-abbrev pub ReplacesForward : ℕ → Option OpenForward → BTreeMap ℕ OpenForward → BTreeMap ℕ OpenForward → Type 0
+abbrev pub ReplacesForward : ℕ → Option RecordedForward → BTreeMap ℕ RecordedForward → BTreeMap ℕ RecordedForward → Type 0
 ReplacesForward number x old new = (f : ℕ) → get nat_cmp new f ≡ cond (eqb number f) x (get nat_cmp old f)
 
-pub forward_replaced : (number : ℕ) (x : Option OpenForward) (old new : BTreeMap ℕ OpenForward) → ReplacesForward number x old new
+pub forward_replaced : (number : ℕ) (x : Option RecordedForward) (old new : BTreeMap ℕ RecordedForward) → ReplacesForward number x old new
     → (f : ℕ) → option_map forward_seen (get nat_cmp new f) ≡ cond (eqb number f) (option_map forward_seen x) (option_map forward_seen (get nat_cmp old f))
 forward_replaced number x old new is f = ap (option_map forward_seen) (is f) ∙ forward_if (eqb number f) x (get nat_cmp old f)
 
-cause_if : (b : Bool) (x o : Option OpenForward) → cause_seen (cond b x o) ≡ cond b (cause_seen x) (cause_seen o)
+cause_if : (b : Bool) (x o : Option RecordedForward) → cause_seen (cond b x o) ≡ cond b (cause_seen x) (cause_seen o)
 cause_if true x o = refl
 cause_if false x o = refl
 
-pub cause_replaced : (number : ℕ) (x : Option OpenForward) (old new : BTreeMap ℕ OpenForward) → ReplacesForward number x old new
+pub cause_replaced : (number : ℕ) (x : Option RecordedForward) (old new : BTreeMap ℕ RecordedForward) → ReplacesForward number x old new
     → (f : ℕ) → cause_seen (get nat_cmp new f) ≡ cond (eqb number f) (cause_seen x) (cause_seen (get nat_cmp old f))
 cause_replaced number x old new is f = ap cause_seen (is f) ∙ cause_if (eqb number f) x (get nat_cmp old f)
 
@@ -64,7 +64,7 @@ answered_and_begun false target forward position moment response lives is =
     ap (λ (ls : List Live). lives ++ ls) (begun_elsewhere target forward position moment response (may_store forward.request response.head) is) ∙ append-nil lives
 
 -- what a response to an open forward makes of all that is kept
-pub record Answers (format : Format) (old : ListIndex) (forward : OpenForward) (number position moment : ℕ) (response : Message ResponseHead) (mid : List LiveResponse) (new : ListIndex) : Type 0 where
+pub record Answers (format : Format) (old : ListIndex) (forward : RecordedForward) (number position moment : ℕ) (response : Message ResponseHead) (mid : List LiveResponse) (new : ListIndex) : Type 0 where
   pub was_open : get nat_cmp old.forwards number ≡ Some forward
   pub forwards : ReplacesForward number None old.forwards new.forwards
   pub errors : (target : Target) → position_in target new.errors
@@ -75,7 +75,7 @@ pub record Answers (format : Format) (old : ListIndex) (forward : OpenForward) (
   pub failures : new.failures ≡ old.failures
   pub forwarded : new.forwarded ≡ old.forwarded
 
-pub notes_answer : (format : Format) (old new : ListIndex) (forward : OpenForward) (number position moment : ℕ) (response : Message ResponseHead) (mid : List LiveResponse)
+pub notes_answer : (format : Format) (old new : ListIndex) (forward : RecordedForward) (number position moment : ℕ) (response : Message ResponseHead) (mid : List LiveResponse)
     → Answers format old forward number position moment response mid new → Notes format (seen_in old) position (OriginResponse number moment response) (seen_in new)
 notes_answer format old new forward number position moment response mid a =
     let is : Some (forward_seen forward) ≡ option_map forward_seen (get nat_cmp old.forwards number) = sym (ap (option_map forward_seen) a.was_open) in

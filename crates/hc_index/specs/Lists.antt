@@ -30,9 +30,9 @@ use Rattle.hc_history.specs.Right.{is_judged_collapsed}
 use Rattle.hc_history.specs.Seen.{Live, WindowResponse, response_to, Seen}
 use Rattle.hc_index.specs.declared.kept.LiveResponse.{LiveResponse}
 use Rattle.hc_index.specs.declared.kept.WindowAnswer.{WindowAnswer}
-use Rattle.hc_index.specs.declared.kept.OpenExchange.{OpenExchange}
+use Rattle.hc_index.specs.declared.kept.RecordedExchange.{RecordedExchange}
 use Rattle.hc_index.specs.declared.kept.WatchedExchange.{WatchedExchange}
-use Rattle.hc_index.specs.declared.kept.OpenForward.{OpenForward}
+use Rattle.hc_index.specs.declared.kept.RecordedForward.{RecordedForward}
 use Rattle.hc_index.specs.declared.list_index.ListIndex.{ListIndex}
 
 -- ---- each thing that is kept
@@ -43,17 +43,17 @@ live_seen live = record { position = live.position; state = live.state }
 abbrev pub answer_seen : WindowAnswer → WindowResponse
 answer_seen answer = record { method = answer.method; status = answer.status; body = answer.body }
 
-abbrev pub exchange_seen : OpenExchange → Exchange
+abbrev pub exchange_seen : RecordedExchange → Exchange
 exchange_seen exchange = record { number = exchange.number; position = exchange.position; request = exchange.request; target = exchange.target }
 
 abbrev pub window_seen : WatchedExchange → List WindowResponse
 window_seen watched = map answer_seen watched.window.items
 
-abbrev pub forward_seen : OpenForward → Forward
+abbrev pub forward_seen : RecordedForward → Forward
 forward_seen forward = record { moment = forward.moment; request = forward.request; target = forward.target }
 
 -- the exchange that it was made for
-abbrev pub cause_seen : Option OpenForward → Option ℕ
+abbrev pub cause_seen : Option RecordedForward → Option ℕ
 cause_seen None = None
 cause_seen (Some forward) = forward.cause
 

@@ -7,7 +7,7 @@ ghost use Rattle.hc_head.specs.Statuses.{is_error_status};
 ghost use Rattle.hc_index.specs.Lists.{forward_seen};
 ghost use Rattle.hc_index.specs.Maps.{AnswersAt, ClosesAt, FailsAt, KeepsSame, OpensAt};
 
-use crate::kept::{LiveResponse, OpenForward};
+use crate::kept::{LiveResponse, RecordedForward};
 use crate::lives::{answer_lives, begin_live};
 use crate::pool::Pool;
 use hc_fields::SharedOctets;
@@ -102,8 +102,7 @@ impl AtTarget {
     /// kept once.
     pub(crate) fn answer(
         &mut self,
-        alloc: Global,
-        forward: OpenForward,
+        forward: RecordedForward,
         cause: ToldCause,
         position: u64,
         moment: u64,
@@ -112,6 +111,7 @@ impl AtTarget {
         requires { moment < end_of_moments }
         ensures { OnOk result (AnswersAt (forward_seen forward) cause position moment response (Some self.old) (Some self.new)) }
     {
+        let alloc = forward.request.fields.alloc();
         let Message { head, body } = response;
         self.error = error_after(self.error, head.status, position);
         let body = shared_body(self.lives.as_slice(), body)?;

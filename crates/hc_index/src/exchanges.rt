@@ -3,7 +3,7 @@
 ghost use Rattle.std.specs.Prelude.{◌≡◌, ◌==◌, ℕ, Some, None, map, OnOk, if◌then◌else◌};
 ghost use Rattle.hc_index.specs.Lists.{forward_seen, open_in, watched, watched_answered};
 
-use crate::kept::{OpenForward, WatchedExchange, WindowAnswer};
+use crate::kept::{RecordedForward, WatchedExchange, WindowAnswer};
 use hc_framing::Message;
 use hc_head::{ResponseHead, same_target};
 use hc_history::may_be_for;
@@ -34,7 +34,7 @@ pub(crate) fn open_exchange(
 /// Puts the response to a forward of any target and cause into the window of an exchange.
 fn add_to_window(
     alloc: Global,
-    forward: &OpenForward,
+    forward: &RecordedForward,
     cause: ToldCause,
     response: &Message<ResponseHead>,
     exchange: &mut WatchedExchange,
@@ -59,7 +59,7 @@ fn add_to_window(
 #[tactic(auto, using(crate::proofs::LoopLemmas::seen_over_at))]
 pub(crate) fn add_to_windows(
     alloc: Global,
-    forward: &OpenForward,
+    forward: &RecordedForward,
     cause: ToldCause,
     response: &Message<ResponseHead>,
     exchanges: &mut Vec<WatchedExchange>,

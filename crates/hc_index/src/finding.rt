@@ -12,7 +12,7 @@ ghost use Rattle.hc_head.specs.Targets.{same_target};
 ghost use Rattle.hc_history.specs.Seen.{Seen, IsSeenAs, live_of};
 ghost use Rattle.hc_index.specs.Lists.{IsMostOrEnough, carried_by, ends_at, exchange_seen, live_in, passed_live};
 
-use crate::kept::{LiveResponse, OpenExchange, WindowAnswer};
+use crate::kept::{LiveResponse, RecordedExchange, WindowAnswer};
 use hc_head::same_target;
 use hc_history::{
     Among, Finding, Mark, MarkedReply, Reason, ReplyClaim, Settings, carries, found_of_collapsed,
@@ -44,7 +44,7 @@ pub(crate) struct Window {
 
 /// What a reply to an open exchange claims.
 pub(crate) fn claim_of<'a>(
-    exchange: &'a OpenExchange,
+    exchange: &'a RecordedExchange,
     window: Window,
     moment: u64,
     reply: &MarkedReply<'a>,

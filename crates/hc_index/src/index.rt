@@ -10,7 +10,7 @@ ghost use Rattle.hc_history.specs.Right.{IsFinding};
 ghost use Rattle.hc_history.specs.Candidates.{AreCandidatesOf};
 ghost use Rattle.hc_index.specs.Lists.{cause_seen, forward_seen, state_in};
 
-use crate::kept::OpenForward;
+use crate::kept::RecordedForward;
 use hc_head::Target;
 use hc_history::{Candidate, Finding, MarkedReply, ReplyClaim, Settings};
 use hc_transcript::{Format, RecordView};
@@ -36,7 +36,7 @@ pub trait Index {
 
     /// What is found of a reply to the open exchange of that number, which comes next in a transcript of
     /// that format, at that moment: that it is right, or the least reason why it is wrong. Where no
-    /// exchange of that number is open, the answer says nothing. It fails only where memory is refused.
+    /// exchange of that number is open, the result says nothing. It fails only where memory is refused.
     fn find(
         &self,
         exchange: u64,
@@ -89,7 +89,7 @@ pub trait Index {
             → option_copied result ≡ state_in position (live_of target.now h) };
 
     /// The open forward of that number. None where none is open.
-    fn forward(&self, number: u64) -> Option<&OpenForward>
+    fn forward(&self, number: u64) -> Option<&RecordedForward>
         ensures asked { (format : Format) (h : List Item) → IsSeenAs format (seen self.now) h
             → option_map forward_seen (option_copied result) ≡ forward_of number h }
         ensures cause { (format : Format) (h : List Item) → IsSeenAs format (seen self.now) h

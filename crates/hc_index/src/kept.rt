@@ -59,7 +59,7 @@ pub(crate) struct PooledAnswer {
 }
 
 /// An open exchange.
-pub(crate) struct OpenExchange {
+pub(crate) struct RecordedExchange {
     pub(crate) number: u64,
     /// The position of its request.
     pub(crate) position: u64,
@@ -67,9 +67,9 @@ pub(crate) struct OpenExchange {
     pub(crate) target: Target,
 }
 
-impl Drop for OpenExchange {
+impl Drop for RecordedExchange {
     fn drop(self) {
-        let OpenExchange {
+        let RecordedExchange {
             number: _,
             position: _,
             request,
@@ -80,12 +80,12 @@ impl Drop for OpenExchange {
     }
 }
 
-impl OpenExchange {
+impl RecordedExchange {
     /// The exchange of a request.
     pub(crate) fn new(number: u64, position: u64, request: RequestHead, target: Target) -> Self
         ensures { result ≡ record { number = number; position = position; request = request; target = target } }
     {
-        OpenExchange {
+        RecordedExchange {
             number,
             position,
             request,
@@ -97,7 +97,7 @@ impl OpenExchange {
 /// An open exchange with a window of its own.
 #[derive(Drop)]
 pub(crate) struct WatchedExchange {
-    pub(crate) exchange: OpenExchange,
+    pub(crate) exchange: RecordedExchange,
     /// What the origin has answered for its target since its request, the oldest first.
     pub(crate) window: Vec<WindowAnswer>,
 }
@@ -105,14 +105,14 @@ pub(crate) struct WatchedExchange {
 /// An open exchange whose window is the end of its target's pool.
 #[derive(Drop)]
 pub(crate) struct PooledExchange {
-    pub(crate) exchange: OpenExchange,
+    pub(crate) exchange: RecordedExchange,
     /// How many answers the pool had been given before its request.
     pub(crate) behind: usize,
 }
 
 /// An open forward.
 #[derive(Drop)]
-pub struct OpenForward {
+pub struct RecordedForward {
     /// When it was sent, in whole seconds since 1970.
     pub moment: u64,
     /// What was sent, but for its body.
@@ -123,12 +123,12 @@ pub struct OpenForward {
     pub cause: Option<u64>,
 }
 
-impl OpenForward {
+impl RecordedForward {
     /// The forward of a request that was sent at that moment.
     pub(crate) fn new(moment: u64, request: RequestHead, target: Target, cause: Option<u64>) -> Self
         ensures { result ≡ record { moment = moment; request = request; target = target; cause = cause } }
     {
-        OpenForward {
+        RecordedForward {
             moment,
             request,
             target,

@@ -20,6 +20,6 @@ mod targets;
 
 pub use hc_history::{Candidate, Finding, MarkedReply, Reason, ReplyClaim, Settings};
 pub use index::Index;
-pub use kept::OpenForward;
+pub use kept::RecordedForward;
 pub use list_index::ListIndex;
 pub use map_index::MapIndex;

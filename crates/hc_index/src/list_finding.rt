@@ -52,7 +52,7 @@ fn is_carried(mark: Mark, claim: &ReplyClaim<'_>, window: &[WindowAnswer]) -> bo
     }
 }
 
-/// What is found of a reply to the open exchange of that number. Where there is none, the answer says
+/// What is found of a reply to the open exchange of that number. Where there is none, the result says
 /// nothing.
 pub(crate) fn finding(
     index: &ListIndex,

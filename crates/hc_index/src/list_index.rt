@@ -15,7 +15,7 @@ ghost use Rattle.hc_index.specs.Lists.{by_target, position_in, seen_in};
 use crate::candidates::response_among;
 use crate::exchanges::{add_to_windows, close_exchange, open_exchange};
 use crate::index::Index;
-use crate::kept::{LiveResponse, OpenExchange, OpenForward, WatchedExchange};
+use crate::kept::{LiveResponse, RecordedExchange, RecordedForward, WatchedExchange};
 use crate::list_finding::{candidates, claim, finding};
 use crate::lives::{answer_lives, begin_live};
 use crate::noting::{Noting, note_record};
@@ -35,7 +35,7 @@ pub struct ListIndex {
     /// The live responses, by rising position.
     pub(crate) lives: Vec<LiveResponse>,
     pub(crate) exchanges: Vec<WatchedExchange>,
-    pub(crate) forwards: BTreeMap<u64, OpenForward>,
+    pub(crate) forwards: BTreeMap<u64, RecordedForward>,
     /// The open exchanges for which a forward was made.
     pub(crate) forwarded: BTreeSet<u64>,
     /// The position of the latest error of a forward of each target.
@@ -81,7 +81,7 @@ fn keep_position(
 fn keep_error(
     alloc: Global,
     positions: &mut BTreeMap<Target, u64>,
-    forward: &OpenForward,
+    forward: &RecordedForward,
     response: &Message<ResponseHead>,
     position: u64,
 ) -> Result<(), AllocError>
@@ -122,7 +122,7 @@ impl Noting for ListIndex {
         target: Target,
     ) -> Result<(), AllocError> {
         let watched = WatchedExchange {
-            exchange: OpenExchange::new(number, position, request, target),
+            exchange: RecordedExchange::new(number, position, request, target),
             window: Vec::new(self.alloc),
         };
         begin_anew(&mut self.forwarded, number);
@@ -142,7 +142,7 @@ impl Noting for ListIndex {
         target: Target,
         cause: Option<u64>,
     ) -> Result<(), AllocError> {
-        let forward = OpenForward::new(moment, request, target, cause);
+        let forward = RecordedForward::new(moment, request, target, cause);
         self.forwards.insert(number, forward)?;
         add_sent(&mut self.forwarded, cause)
     }
@@ -228,7 +228,7 @@ impl Index for ListIndex {
         response_among(self.lives.as_slice(), target, position)
     }
 
-    fn forward(&self, number: u64) -> Option<&OpenForward> {
+    fn forward(&self, number: u64) -> Option<&RecordedForward> {
         self.forwards.get(&number)
     }
 }

@@ -9,7 +9,7 @@ ghost use Rattle.hc_history.specs.States.{begun_by, state_answered};
 ghost use Rattle.hc_history.specs.Seen.{live_at, remaining};
 ghost use Rattle.hc_index.specs.Lists.{forward_seen, live_in, may_change, targeted, targeted_answered};
 
-use crate::kept::{LiveResponse, OpenForward};
+use crate::kept::{LiveResponse, RecordedForward};
 use hc_fields::Fields;
 use hc_framing::Message;
 use hc_head::{ResponseHead, StatusCode, same_target};
@@ -45,7 +45,7 @@ fn forget_lost(state: &mut Stored)
 /// refused, nothing has changed.
 fn answer_state(
     alloc: Global,
-    forward: &OpenForward,
+    forward: &RecordedForward,
     position: u64,
     moment: u64,
     response: &Message<ResponseHead>,
@@ -66,7 +66,7 @@ fn answer_state(
 /// What a response to a forward of any target makes of a live response.
 fn answer_live(
     alloc: Global,
-    forward: &OpenForward,
+    forward: &RecordedForward,
     position: u64,
     moment: u64,
     response: &Message<ResponseHead>,
@@ -84,7 +84,7 @@ fn answer_live(
 }
 
 /// Whether a response to a forward may freshen or invalidate a live response at all.
-fn may_change(forward: &OpenForward, response: &Message<ResponseHead>) -> bool
+fn may_change(forward: &RecordedForward, response: &Message<ResponseHead>) -> bool
     ensures { result ≡ may_change forward.now.request.method response.now.head.status }
 {
     response.head.status == StatusCode::NOT_MODIFIED
@@ -95,7 +95,7 @@ fn may_change(forward: &OpenForward, response: &Message<ResponseHead>) -> bool
 #[tactic(auto, using(crate::proofs::LoopLemmas::seen_over_at))]
 pub(crate) fn answer_lives(
     alloc: Global,
-    forward: &OpenForward,
+    forward: &RecordedForward,
     position: u64,
     moment: u64,
     response: &Message<ResponseHead>,
@@ -117,7 +117,7 @@ pub(crate) fn answer_lives(
 /// Keeps the response, if it may be stored.
 pub(crate) fn begin_live(
     alloc: Global,
-    forward: OpenForward,
+    forward: RecordedForward,
     position: u64,
     moment: u64,
     response: Message<ResponseHead>,

@@ -10,7 +10,7 @@ ghost use Rattle.hc_index.specs.Maps.{seen_in};
 
 use crate::at_target::AtTarget;
 use crate::index::Index;
-use crate::kept::{OpenExchange, OpenForward, PooledExchange};
+use crate::kept::{PooledExchange, RecordedExchange, RecordedForward};
 use crate::map_finding::{candidates, claim, finding, response};
 use crate::noting::{Noting, note_record};
 use crate::sent::{add_sent, begin_anew};
@@ -29,7 +29,7 @@ pub struct MapIndex {
     pub(crate) alloc: Global,
     pub(crate) targets: BTreeMap<Target, AtTarget>,
     pub(crate) exchanges: BTreeMap<u64, PooledExchange>,
-    pub(crate) forwards: BTreeMap<u64, OpenForward>,
+    pub(crate) forwards: BTreeMap<u64, RecordedForward>,
     /// The open exchanges for which a forward was made.
     pub(crate) forwarded: BTreeSet<u64>,
 }
@@ -78,7 +78,7 @@ impl Noting for MapIndex {
         begin_anew(&mut self.forwarded, number);
         let behind = open_at(self.alloc, &mut self.targets, &target, number)?;
         let pooled = PooledExchange {
-            exchange: OpenExchange::new(number, position, request, target),
+            exchange: RecordedExchange::new(number, position, request, target),
             behind,
         };
         self.exchanges.insert(number, pooled)?;
@@ -101,7 +101,7 @@ impl Noting for MapIndex {
         target: Target,
         cause: Option<u64>,
     ) -> Result<(), AllocError> {
-        let forward = OpenForward::new(moment, request, target, cause);
+        let forward = RecordedForward::new(moment, request, target, cause);
         self.forwards.insert(number, forward)?;
         add_sent(&mut self.forwarded, cause)
     }
@@ -125,9 +125,13 @@ impl Noting for MapIndex {
             return Ok(());
         };
         let cause = ToldCause::told_in(format, forward.cause);
-        let targets = &mut self.targets;
         answer_at(
-            self.alloc, targets, forward, cause, position, moment, response,
+            &mut self.targets,
+            forward,
+            cause,
+            position,
+            moment,
+            response,
         )
     }
 }
@@ -185,7 +189,7 @@ impl Index for MapIndex {
         response(self, target, position)
     }
 
-    fn forward(&self, number: u64) -> Option<&OpenForward> {
+    fn forward(&self, number: u64) -> Option<&RecordedForward> {
         self.forwards.get(&number)
     }
 }

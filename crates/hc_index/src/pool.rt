@@ -7,7 +7,7 @@ ghost use Rattle.hc_history.specs.Windows.{may_be_for};
 ghost use Rattle.hc_history.specs.Forwarded.{carries};
 ghost use Rattle.hc_index.specs.Openings.{by_opening};
 
-use crate::kept::{OpenForward, PooledAnswer, WindowAnswer};
+use crate::kept::{PooledAnswer, RecordedForward, WindowAnswer};
 use hc_framing::Message;
 use hc_head::ResponseHead;
 use hc_history::{ReplyClaim, carries, may_be_for};
@@ -143,7 +143,7 @@ impl Pool {
     pub(crate) fn add(
         &mut self,
         alloc: Global,
-        forward: &OpenForward,
+        forward: &RecordedForward,
         cause: ToldCause,
         response: &Message<ResponseHead>,
     ) -> Result<(), AllocError>

@@ -6,7 +6,7 @@ ghost use Rattle.hc_index.specs.Lists.{forward_seen};
 ghost use Rattle.hc_index.specs.Maps.{AnswersAt, ChangesAt, ClosesAt, FailsAt, OpensAt};
 
 use crate::at_target::AtTarget;
-use crate::kept::OpenForward;
+use crate::kept::RecordedForward;
 use hc_framing::Message;
 use hc_head::{ResponseHead, Target};
 use hc_transcript::ToldCause;
@@ -70,9 +70,8 @@ pub(crate) fn fail_at(
 
 /// Takes in the response to a forward of that cause.
 pub(crate) fn answer_at(
-    alloc: Global,
     targets: &mut BTreeMap<Target, AtTarget>,
-    forward: OpenForward,
+    forward: RecordedForward,
     cause: ToldCause,
     position: u64,
     moment: u64,
@@ -82,11 +81,12 @@ pub(crate) fn answer_at(
     ensures { OnOk result (ChangesAt forward.target targets.old targets.new (AnswersAt (forward_seen forward) cause position moment response)) }
 {
     if let Some(here) = targets.get_mut(&forward.target) {
-        return here.answer(alloc, forward, cause, position, moment, response);
+        return here.answer(forward, cause, position, moment, response);
     }
+    let alloc = forward.request.fields.alloc();
     let target = forward.target.copy(alloc)?;
     let mut here = AtTarget::new(alloc);
-    here.answer(alloc, forward, cause, position, moment, response)?;
+    here.answer(forward, cause, position, moment, response)?;
     if !here.is_nothing() {
         targets.insert(target, here)?;
     }

@@ -1,7 +1,4 @@
-pub mod CountLemmas
-pub mod HeadLemmas
-pub mod BeginningLemmas
-pub mod RequestLemmas
-pub mod RequestLaws
-pub mod ResponseLemmas
-pub mod ResponseLaws
+pub mod BufferLemmas
+pub mod KeepingLemmas
+pub mod ReadLemmas
+pub mod WritingLemmas

@@ -1,16 +1,25 @@
-//! What arrives on links: how the octets of a client connection become requests or refusals, and how
-//! those of a forward's connection to the origin become one response or a failure.
+//! What a driver asks of links, and of who keeps its records: the traits, and recorders over them.
 #![tactic(auto)]
 
-mod arrival;
-mod heads;
-mod laws;
-mod requests;
-mod responses;
-mod troubles;
+mod batches;
+mod buffered;
+mod clients;
+mod happened;
+mod lapsing;
+mod link;
+mod links;
+mod off;
+mod reading;
+mod recorder;
+mod writing;
 
-pub use arrival::{Arrival, Ended, Heard};
-pub use laws::{one_request_arrives, one_response_arrives, refusals_have_their_status};
-pub use requests::RequestReader;
-pub use responses::ResponseReader;
-pub use troubles::refusal_status;
+pub use batches::Batches;
+pub use buffered::Buffered;
+pub use clients::Clients;
+pub use happened::Happened;
+pub use lapsing::{Lapsing, Silence};
+pub use link::{Clock, Link, LinkFailure, Origins};
+pub use links::{Awaiting, Links};
+pub use off::Off;
+pub use reading::{Came, read_some, send_octets, send_text};
+pub use recorder::Recorder;

@@ -19,7 +19,7 @@ const TURNS: usize = 1_024;
 
 /// How far one who watches is.
 #[derive(Clone, Copy, PartialEq, Eq)]
-enum Stage {
+enum WatchStage {
     /// The request comes.
     Asks,
     /// The numbers are awaited.
@@ -45,7 +45,7 @@ enum Turn {
 pub struct Watching {
     alloc: Global,
     stream: TcpStream,
-    stage: Stage,
+    stage: WatchStage,
     /// What came of the request.
     heard: Vec<u8>,
     /// The reply, and how many octets of it were written.
@@ -75,7 +75,7 @@ impl Watching {
         Watching {
             alloc,
             stream,
-            stage: Stage::Asks,
+            stage: WatchStage::Asks,
             heard: Vec::new(alloc),
             reply: Vec::new(alloc),
             sent: 0,
@@ -84,17 +84,17 @@ impl Watching {
 
     /// Whether the numbers are awaited.
     pub fn awaits(&self) -> bool {
-        self.stage == Stage::Awaits
+        self.stage == WatchStage::Awaits
     }
 
-    /// Something became ready. Answers whether the link is of use still.
+    /// Something became ready. Returns whether the link is of use still.
     pub fn go_on(&mut self, board: &Board, serves: bool) -> bool {
         'turns: for _ in 0..TURNS {
             let turn = match self.stage {
-                Stage::Asks => self.hear(board, serves),
-                Stage::Awaits => Turn::Later,
-                Stage::Told => self.write(),
-                Stage::Ended => self.drop_rest(),
+                WatchStage::Asks => self.hear(board, serves),
+                WatchStage::Awaits => Turn::Later,
+                WatchStage::Told => self.write(),
+                WatchStage::Ended => self.drop_rest(),
             };
             match turn {
                 Turn::Passed => {}
@@ -125,7 +125,7 @@ impl Watching {
             Wanted::More if self.heard.len() < MOST_OCTETS => Turn::Passed,
             Wanted::More => self.tell(Body::Fixed(Wanted::Broken)),
             Wanted::Metrics => {
-                self.stage = Stage::Awaits;
+                self.stage = WatchStage::Awaits;
                 board.ask();
                 Turn::Later
             }
@@ -139,7 +139,7 @@ impl Watching {
         match reply(self.alloc, body) {
             Ok(reply) => {
                 self.reply = reply;
-                self.stage = Stage::Told;
+                self.stage = WatchStage::Told;
                 Turn::Passed
             }
             Err(_) => Turn::Over,
@@ -148,7 +148,7 @@ impl Watching {
 
     /// Replies that, where the numbers are awaited.
     pub fn answer_if_awaiting(&mut self, body: Body<'_>) {
-        if self.stage != Stage::Awaits {
+        if self.stage != WatchStage::Awaits {
             return;
         }
         match self.tell(body) {
@@ -156,7 +156,7 @@ impl Watching {
                 let _ = self.write();
             }
             // The other side waits no longer than it wants to.
-            _ => self.stage = Stage::Ended,
+            _ => self.stage = WatchStage::Ended,
         }
     }
 
@@ -181,7 +181,7 @@ impl Watching {
         if self.sent < self.reply.len() {
             return;
         }
-        self.stage = Stage::Ended;
+        self.stage = WatchStage::Ended;
         // Where the other side has gone, nobody waits for the end.
         let _ = self.stream.shutdown(Shutdown::Write);
     }

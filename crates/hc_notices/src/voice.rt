@@ -68,7 +68,7 @@ impl<'a, E: Write> Voice<'a, E> {
     }
 }
 
-/// Writes octets, as far as they are taken. Answers whether all were.
+/// Writes octets, as far as they are taken. Returns whether all were.
 fn put<E: Write>(to: &mut E, octets: &[u8]) -> bool
     ensures all { result ≡ true → Appends (E.contents to.old) (E.contents to.new) octets.now }
     ensures some { BeginsBehind (E.contents to.old) (E.contents to.new) octets.now }

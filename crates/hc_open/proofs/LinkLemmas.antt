@@ -4,8 +4,8 @@ use Rattle.std.specs.BTreeMap.{BTreeMap}
 use Rattle.hc_head.specs.declared.head.RequestHead.{RequestHead}
 use Rattle.hc_head.specs.declared.head.Target.{Target}
 use Rattle.hc_head.specs.Methods.{is_head}
-use Rattle.hc_links.specs.declared.responses.ResponseReader.{ResponseReader}
-use Rattle.hc_links.specs.ResponseReading.{WasGiven}
+use Rattle.hc_incoming.specs.declared.responses.ResponseReader.{ResponseReader}
+use Rattle.hc_incoming.specs.ResponseReading.{WasGiven}
 use Rattle.hc_service.specs.declared.open.Purpose.{Purpose}
 use Rattle.hc_service.specs.State.{Table, Connection}
 use Rattle.hc_service.specs.Turns.{sent_forward}

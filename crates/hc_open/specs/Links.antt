@@ -9,9 +9,9 @@ use Rattle.hc_head.specs.contracts.head.TargetOrd.TheImpl as target_order
 use Rattle.hc_head.specs.declared.head.Target.{Target}
 use Rattle.hc_head.specs.Methods.{is_head}
 use Rattle.hc_head.specs.Targets.{same_target}
-use Rattle.hc_links.specs.declared.requests.RequestReader.{RequestReader}
-use Rattle.hc_links.specs.RequestReading as requests
-use Rattle.hc_links.specs.ResponseReading as responses
+use Rattle.hc_incoming.specs.declared.requests.RequestReader.{RequestReader}
+use Rattle.hc_incoming.specs.RequestReading as requests
+use Rattle.hc_incoming.specs.ResponseReading as responses
 use Rattle.hc_service.specs.declared.open.OpenExchange.{OpenExchange}
 use Rattle.hc_service.specs.Joining.{may_be_joined, most_waiting, waiting_for, waits_for}
 use Rattle.hc_service.specs.Reactions.{is_background}

@@ -2,7 +2,7 @@
 
 ghost use Rattle.std.specs.Prelude.{◌≡◌, false, None, []};
 
-use hc_links::{RequestReader, ResponseReader};
+use hc_incoming::{RequestReader, ResponseReader};
 use hc_service::OpenForward;
 use std::alloc::{AllocError, Global};
 

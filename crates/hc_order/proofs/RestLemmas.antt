@@ -5,7 +5,7 @@ use Rattle.std.specs.Cmp.{nat_cmp_total}
 use Rattle.std.specs.Option.{IsSome, is_some}
 use Rattle.std.specs.Ordering.{nat_cmp}
 use Rattle.hc_transcript.specs.declared.record.Record.{Record}
-use Rattle.hc_events.specs.declared.Event.{Event}
+use Rattle.hc_service.specs.declared.event.Event.{Event}
 use Rattle.hc_service.specs.declared.settings.CoreOptions.{CoreOptions}
 use Rattle.hc_service.specs.declared.settings.CoreSettings.{CoreSettings}
 use Rattle.hc_service.specs.Agreement.{Agrees, HasLeft, History}

@@ -2,9 +2,9 @@
 use Rattle.std.specs.Prelude.{◌≡◌, ℕ, ◌+◌, ◌<◌, ◌==◌, Bool, true, false, nat_lt, List, [], ◌∷◌, Option, Some, None, is_some, if◌then◌else◌}
 use Rattle.std.specs.FinMap.{get, len}
 use Rattle.hc_transcript.specs.Limits.{greatest_moment}
-use Rattle.hc_events.specs.declared.Event.{Event}
-use Rattle.hc_events.specs.declared.Happening.{Happening}
-use Rattle.hc_events.specs.declared.Happening.TheVariants.{ClientOpened, ClientBytes, ClientEnd, OriginBytes, OriginEnd, OriginFailed, Stopping}
+use Rattle.hc_service.specs.declared.event.Event.{Event}
+use Rattle.hc_service.specs.declared.event.Happening.{Happening}
+use Rattle.hc_service.specs.declared.event.Happening.TheVariants.{ClientOpened, ClientBytes, ClientEnd, OriginBytes, OriginEnd, OriginFailed, Stopping}
 use Rattle.hc_service.specs.declared.fault.StepFault.{StepFault}
 use Rattle.hc_service.specs.declared.fault.StepFault.TheVariants.{MomentTooLarge}
 use Rattle.hc_service.specs.Numbers.{is_later}

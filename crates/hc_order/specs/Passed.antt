@@ -1,7 +1,7 @@
 -- What has passed, where a cache was handed what happened and answered so.
 use Rattle.std.specs.Prelude.{◌≡◌, ℕ, true, nat_lt, List, [], ◌∷◌, Ok, Err}
 use Rattle.hc_transcript.specs.Limits.{greatest_moment}
-use Rattle.hc_events.specs.declared.Event.{Event}
+use Rattle.hc_service.specs.declared.event.Event.{Event}
 use Rattle.hc_service.specs.declared.fault.StepFault.{StepFault}
 use Rattle.hc_service.specs.declared.fault.StepFault.TheVariants.{Memory, MomentTooLarge, UnknownNumber, TooManyConnections, Failed}
 use Rattle.hc_service.specs.Runs.{StepResult}

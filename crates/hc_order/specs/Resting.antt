@@ -2,9 +2,9 @@
 use Rattle.std.specs.Prelude.{◌≡◌, ℕ, ◌≤◌, ◌==◌, Bool, true, false, List, [], ◌∷◌, Some, None, Ok, Err, if◌then◌else◌}
 use Rattle.std.specs.FinMap.{get, len}
 use Rattle.std.specs.Option.{IsSome}
-use Rattle.hc_events.specs.declared.Event.{Event}
-use Rattle.hc_events.specs.declared.Happening.{Happening}
-use Rattle.hc_events.specs.declared.Happening.TheVariants.{ClientEnd, OriginEnd, OriginFailed}
+use Rattle.hc_service.specs.declared.event.Event.{Event}
+use Rattle.hc_service.specs.declared.event.Happening.{Happening}
+use Rattle.hc_service.specs.declared.event.Happening.TheVariants.{ClientEnd, OriginEnd, OriginFailed}
 use Rattle.hc_service.specs.Follows.{forward_after}
 use Rattle.hc_service.specs.Numbers.{is_later}
 use Rattle.hc_service.specs.Runs.{StepResult}

@@ -1,7 +1,7 @@
 //! Laws of what is open: each holds of the definitions, and the functions that bear them do nothing.
 
 ghost use Rattle.std.specs.Prelude.{◌≡◌, ℕ, List, [], ◌∷◌, Option, Some, None};
-ghost use Rattle.hc_events.specs.declared.Event.{Event};
+ghost use Rattle.hc_service.specs.declared.event.Event.{Event};
 ghost use Rattle.hc_service.specs.declared.action.Action.{Action};
 ghost use Rattle.hc_service.specs.declared.settings.CoreOptions.{CoreOptions};
 ghost use Rattle.hc_service.specs.declared.settings.CoreSettings.{CoreSettings};

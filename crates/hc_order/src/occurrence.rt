@@ -1,6 +1,6 @@
 //! What happened, and why it is told.
 
-use hc_events::Event;
+use hc_service::Event;
 
 /// Why what happened is told.
 #[derive(Clone, Copy, PartialEq, Eq)]

@@ -108,7 +108,7 @@ fn put_told<R: Files + AllocGlobal, E: Write>(
     let mut rest = entries;
     for number in 1..=lines_told(entries).lines {
         if let Some((line, behind)) = split_line(rest) {
-            let tells = part_told(rt, dir, number, line, faults)?;
+            let tells = part_told(rt, ListedPart { dir, number, line }, faults)?;
             if all.push(tells).is_err() {
                 return Err(Trouble::Memory);
             }
@@ -118,17 +118,26 @@ fn put_told<R: Files + AllocGlobal, E: Write>(
     Ok(())
 }
 
-// What is told of the part of that number, which that line describes.
+// A part, as the manifest lists it.
+#[derive(Clone, Copy)]
+struct ListedPart<'a> {
+    // The folder in which its files are.
+    dir: &'a str,
+    // Its number, from 1 on.
+    number: usize,
+    // The line that describes it.
+    line: &'a [u8],
+}
+
+// What is told of that part.
 fn part_told<R: Files + AllocGlobal, E: Write>(
     rt: &R,
-    dir: &str,
-    number: usize,
-    line: &[u8],
+    part: ListedPart<'_>,
     faults: &mut E,
 ) -> Result<Told, Trouble> {
-    let name = name_in(rt.alloc(), dir, number, PART)?;
-    match part_seen(rt, dir, number, name.as_str()) {
-        Ok(seen) => told_of(rt, dir, number, line, name.as_str(), &seen, faults),
+    let name = name_in(rt.alloc(), part.dir, part.number, PART)?;
+    match part_seen(rt, part.dir, part.number, name.as_str()) {
+        Ok(seen) => told_of(rt, part, name.as_str(), &seen, faults),
         Err(trouble) => untold_by(trouble, name.as_str(), faults),
     }
 }
@@ -136,13 +145,12 @@ fn part_told<R: Files + AllocGlobal, E: Write>(
 // The same of a part that was seen.
 fn told_of<R: Files + AllocGlobal, E: Write>(
     rt: &R,
-    dir: &str,
-    number: usize,
-    line: &[u8],
+    part: ListedPart<'_>,
     name: &str,
     seen: &Seen,
     faults: &mut E,
 ) -> Result<Told, Trouble> {
+    let ListedPart { dir, number, line } = part;
     if !is_entry(rt.alloc(), number, &seen.extent, line)? {
         let why = "it, or its table, isn't as it was split";
         return Ok(untold(name, why, faults));

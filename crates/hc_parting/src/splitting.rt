@@ -274,7 +274,7 @@ fn manifest_of<W: Write + Drop>(alloc: Global, outlets: Vec<Outlet<W>>) -> Resul
     Ok(text)
 }
 
-// Puts the line of each part behind a text, and answers how many records all of them have.
+// Puts the line of each part behind a text, and returns how many records all of them have.
 fn put_entries<W: Write + Drop>(
     outlets: Vec<Outlet<W>>,
     text: &mut String,

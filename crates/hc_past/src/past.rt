@@ -18,7 +18,7 @@ use hc_head::{
     is_head, same_target,
 };
 use hc_history::{ReplyClaim, carries, may_be_for};
-use hc_index::{Index, OpenForward};
+use hc_index::{Index, RecordedForward};
 use hc_shown::RecordName;
 use hc_transcript::{Kind, MeaningView, ToldCause};
 use hc_use::{Forbids, what_forbids};
@@ -488,7 +488,7 @@ impl End {
         alloc: Global,
         named: RecordName,
         sent: Option<RecordName>,
-        forward: &OpenForward,
+        forward: &RecordedForward,
     ) -> Result<Self, AllocError>
         ensures seen { IfOk result (λ end. end_seen end ≡ end_by named forward.now.cause None (forward_seen forward.now)) }
         ensures known { IfOk result (λ end. end_known end ≡ record { sent = sent; forbids = None; heads = None }) }

@@ -3,12 +3,12 @@ use Rattle.std.proofs.Common.{◌≡◌, ℕ, ◌==◌, Bool, true, false, ◌&&
 use Rattle.std.specs.BTreeMap.{BTreeMap, Updates, WritesThrough, get}
 use Rattle.std.specs.Ordering.{nat_cmp}
 use Rattle.std.specs.declared.alloc.AllocError.{AllocError}
-use Rattle.hc_events.specs.declared.Happening.TheVariants.{ClientBytes, ClientEnd, OriginBytes, OriginEnd, OriginFailed}
+use Rattle.hc_service.specs.declared.event.Happening.TheVariants.{ClientBytes, ClientEnd, OriginBytes, OriginEnd, OriginFailed}
 use Rattle.hc_flow.specs.Hearings.{IsHeardInTurn, IsHeardOpen, KeepsHeard, KeepsSent, is_lost}
 use Rattle.hc_flow.specs.Passing.{Stays}
 use Rattle.hc_flow.specs.declared.heard.Heard.{Heard}
 use Rattle.hc_flow.specs.declared.heard.Heard.TheVariants.{Octets, End, Lost, Nothing}
-use Rattle.hc_link_traits.specs.Telling.{TellsIfOk, TellsSent, occurs}
+use Rattle.hc_links.specs.Telling.{TellsIfOk, TellsSent, occurs}
 use Rattle.hc_order.proofs.PassageLemmas.{client_is_open, origin_is_open}
 use Rattle.hc_order.specs.declared.occurrence.Reason.{Reason}
 use Rattle.hc_order.specs.declared.occurrence.Reason.TheVariants.{Peer, Replies, Reads, Stop, Late, Reset, Held, Displaced, Abandoned}

@@ -6,15 +6,15 @@ use Rattle.std.specs.BTreeMap.{is_at}
 use Rattle.std.specs.Map.{lookup}
 use Rattle.std.specs.Ordering.{nat_cmp}
 use Rattle.std.specs.declared.alloc.AllocError.{AllocError}
-use Rattle.hc_events.specs.declared.Happening.{Happening}
-use Rattle.hc_events.specs.declared.Happening.TheVariants.{ClientOpened, ClientBytes, ClientEnd, OriginBytes, OriginEnd, OriginFailed, Stopping}
+use Rattle.hc_service.specs.declared.event.Happening.{Happening}
+use Rattle.hc_service.specs.declared.event.Happening.TheVariants.{ClientOpened, ClientBytes, ClientEnd, OriginBytes, OriginEnd, OriginFailed, Stopping}
 use Rattle.hc_order.specs.declared.occurrence.Reason.{Reason}
 use Rattle.hc_order.specs.declared.occurrence.Reason.TheVariants.{Peer, Replies, Reads, Stop, Late, Reset, Held, Displaced, Abandoned}
 use Rattle.hc_service.specs.Numbers.{is_later}
-use Rattle.hc_link_traits.specs.declared.happened.Happened.{Happened}
-use Rattle.hc_link_traits.specs.Batches.{NothingIsOpen}
-use Rattle.hc_link_traits.specs.Telling.{TellsIfOk}
-use Rattle.hc_link_traits.specs.Telling.{HasWaited}
+use Rattle.hc_links.specs.declared.happened.Happened.{Happened}
+use Rattle.hc_links.specs.Batches.{NothingIsOpen}
+use Rattle.hc_links.specs.Telling.{TellsIfOk}
+use Rattle.hc_links.specs.Telling.{HasWaited}
 use Rattle.hc_order.specs.declared.receiver.Receiver.TheVariants.{Client, Origin}
 use Rattle.hc_order.specs.Log.{Move}
 use Rattle.hc_order.specs.Passages.{passage_of}

@@ -12,7 +12,7 @@ use Rattle.hc_order.specs.declared.occurrence.Reason.{Reason}
 use Rattle.hc_order.specs.declared.receiver.Receiver.TheVariants as to
 use Rattle.hc_order.specs.Log.{Move}
 use Rattle.hc_order.specs.Passages.{Passage}
-use Rattle.hc_flow.specs.declared.progress.Progress.{Progress}
+use Rattle.hc_flow.specs.declared.progress.ForwardProgress.{ForwardProgress}
 use Rattle.hc_peers.specs.Times.{IsTimed}
 use Rattle.hc_peers.specs.declared.forward.Forward.{Forward}
 use Rattle.hc_peers.specs.declared.forward.Reaching.{Reaching}
@@ -67,7 +67,7 @@ is_waiting (Linked link) = false
 is_waiting (Lost reason) = false
 
 -- how the forward is getting on at its link, if there is one
-abbrev pub progress_at : {S : Type 0} → Reaching S → Option Progress
+abbrev pub progress_at : {S : Type 0} → Reaching S → Option ForwardProgress
 progress_at (Waiting request) = None
 progress_at (Linked link) = Some link.progress
 progress_at (Lost reason) = None

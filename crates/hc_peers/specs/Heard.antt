@@ -1,9 +1,9 @@
 -- What is heard of a client or of a forward, as it is told.
 use Rattle.std.specs.Prelude.{◌≡◌, ℕ, Bool, List, Option, Some, None, Result, Ok, Err}
 use Rattle.std.specs.declared.alloc.AllocError.{AllocError}
-use Rattle.hc_link_traits.specs.declared.happened.Happened.{Happened}
-use Rattle.hc_link_traits.specs.Telling.{HasWaited}
-use Rattle.hc_events.specs.declared.Happening.TheVariants.{ClientBytes, ClientEnd, OriginBytes, OriginEnd, OriginFailed}
+use Rattle.hc_links.specs.declared.happened.Happened.{Happened}
+use Rattle.hc_links.specs.Telling.{HasWaited}
+use Rattle.hc_service.specs.declared.event.Happening.TheVariants.{ClientBytes, ClientEnd, OriginBytes, OriginEnd, OriginFailed}
 use Rattle.hc_flow.specs.declared.heard.Heard.{Heard}
 use Rattle.hc_flow.specs.declared.heard.Heard.TheVariants.{Octets, End, Lost, Nothing}
 use Rattle.hc_order.specs.declared.occurrence.Reason.TheVariants.{Peer}

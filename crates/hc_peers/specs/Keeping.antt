@@ -2,8 +2,8 @@
 use Rattle.std.specs.Prelude.{ℕ, Bool, List, Option, Result}
 use Rattle.std.specs.declared.alloc.AllocError.{AllocError}
 use Rattle.hc_order.specs.Log.{Move}
-use Rattle.hc_link_traits.specs.declared.happened.Happened.{Happened}
-use Rattle.hc_link_traits.specs.Telling.{TellsIfOk}
+use Rattle.hc_links.specs.declared.happened.Happened.{Happened}
+use Rattle.hc_links.specs.Telling.{TellsIfOk}
 use Rattle.hc_peers.specs.declared.peers.Peers.{Peers}
 use Rattle.hc_peers.specs.Heard.{HeardInTurn, MayBeHeard}
 use Rattle.hc_peers.specs.Peers.{ArePeers, Bounds}

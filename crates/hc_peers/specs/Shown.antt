@@ -1,7 +1,7 @@
 -- What was written to clients, of what was sent to them.
 use Rattle.std.specs.Prelude.{ℕ, List, Option, Some, None}
 use Rattle.std.specs.BTreeMap.{BTreeMap}
-use Rattle.hc_link_traits.specs.Links.{IsBeginning}
+use Rattle.hc_links.specs.Links.{IsBeginning}
 use Rattle.hc_peers.specs.Guests.{AreUnwritten}
 use Rattle.hc_order.specs.declared.receiver.Receiver.TheVariants as to
 use Rattle.hc_order.specs.Log.{Move}

@@ -1,8 +1,8 @@
 -- What is told of clients who connect. The newest move comes first.
 use Rattle.std.specs.Prelude.{ℕ, List, ◌∷◌, Result, Ok, Err}
 use Rattle.std.specs.declared.alloc.AllocError.{AllocError}
-use Rattle.hc_link_traits.specs.Telling.{occurs}
-use Rattle.hc_events.specs.declared.Happening.TheVariants.{ClientOpened}
+use Rattle.hc_links.specs.Telling.{occurs}
+use Rattle.hc_service.specs.declared.event.Happening.TheVariants.{ClientOpened}
 use Rattle.hc_order.specs.declared.occurrence.Reason.{Reason}
 use Rattle.hc_order.specs.Log.{Move}
 use Rattle.hc_order.specs.Log.Move.{Heard as Told}

@@ -5,7 +5,7 @@ use Rattle.hc_flow.specs.declared.heard.Heard.{Heard}
 use Rattle.hc_flow.specs.declared.heard.Heard.TheVariants.{Octets}
 use Rattle.hc_flow.specs.Paces.{asking, moved}
 use Rattle.hc_flow.specs.declared.pace.Pace.{Pace}
-use Rattle.hc_flow.specs.declared.progress.Progress.{Progress}
+use Rattle.hc_flow.specs.declared.progress.ForwardProgress.{ForwardProgress}
 
 -- octets of a client are of a request
 abbrev pub pace_behind : Result Heard AllocError → ℕ → Pace → Pace
@@ -13,10 +13,10 @@ pace_behind (Ok (Octets octets)) tick pace = asking (length octets) tick pace
 pace_behind other tick pace = pace
 
 -- octets of the origin have passed
-abbrev pub progress_behind : Result Heard AllocError → ℕ → Progress → Progress
+abbrev pub progress_behind : Result Heard AllocError → ℕ → ForwardProgress → ForwardProgress
 progress_behind (Ok (Octets octets)) tick progress = moved true tick progress
 progress_behind other tick progress = progress
 
 -- a forward is timed from when the first link was begun for it
-abbrev pub IsTimed : Option ℕ → Option Progress → Type 0
+abbrev pub IsTimed : Option ℕ → Option ForwardProgress → Type 0
 IsTimed begun progress = IfSome progress (λ at_link. begun ≡ Some at_link.begun)

@@ -11,7 +11,7 @@ impl<S: Stream + Drop> Peers<S> {
     ghost use Rattle.std.specs.BTreeMap.{get};
     ghost use Rattle.std.specs.Option.{IsSomeAnd};
     ghost use Rattle.std.specs.Ordering.{nat_cmp};
-    ghost use Rattle.hc_events.specs.declared.Happening.TheVariants.{ClientOpened};
+    ghost use Rattle.hc_service.specs.declared.event.Happening.TheVariants.{ClientOpened};
     ghost use Rattle.hc_flow.specs.Hearings.{IsHeardInTurn, IsRealEnd};
     ghost use Rattle.hc_flow.specs.declared.pace.Pace.TheVariants.{Idle};
     ghost use Rattle.hc_order.specs.declared.receiver.Receiver.TheVariants as to;

@@ -3,7 +3,7 @@
 ghost use Rattle.std.specs.Prelude.{◌≡◌, ◌+◌, ◌-◌, ◌^◌, ◌<◌, ◌&&◌, not, false, true, [], None, Some, is_ok, is_some, min, unwrap_or, IsErr, OnOk};
 
 use crate::origin_link::OriginLink;
-use hc_flow::{Emptying, Heard, Progress, Readiness, Stream, wants_turn, weight_of};
+use hc_flow::{Emptying, ForwardProgress, Heard, Readiness, Stream, wants_turn, weight_of};
 use hc_framing::MessageText;
 use hc_order::Reason;
 use std::alloc::{AllocError, Global};
@@ -74,7 +74,7 @@ impl<S: Stream + Drop> Forward<S> {
         let Reaching::Waiting(request) = &self.reaching else {
             return Ok(());
         };
-        let link = OriginLink::opening(alloc, stream, request, Progress::new(begun, tick))?;
+        let link = OriginLink::opening(alloc, stream, request, ForwardProgress::new(begun, tick))?;
         self.reaching = Reaching::Linked(link);
         Ok(())
     }
@@ -214,7 +214,7 @@ impl<S: Stream + Drop> Forward<S> {
     }
 
     /// How it is getting on at its link.
-    pub fn progress(&self) -> Option<Progress>
+    pub fn progress(&self) -> Option<ForwardProgress>
         ensures { result ≡ progress_at self.now.reaching }
     {
         match self.linked() {

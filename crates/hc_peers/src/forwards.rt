@@ -14,7 +14,7 @@ impl<S: Stream + Drop> Peers<S> {
     ghost use Rattle.std.specs.Option.{IsSomeAnd};
     ghost use Rattle.std.specs.Ordering.{nat_cmp};
     ghost use Rattle.hc_agenda.specs.Places.{has_place};
-    ghost use Rattle.hc_link_traits.specs.Telling.{TellsSent};
+    ghost use Rattle.hc_links.specs.Telling.{TellsSent};
     ghost use Rattle.hc_order.specs.declared.receiver.Receiver.TheVariants.{Origin};
     ghost use Rattle.hc_order.specs.Log.{Move};
     ghost use Rattle.hc_order.specs.Log.Move.{Closed};

@@ -12,7 +12,7 @@ use std::mem;
 impl<S: Stream + Drop> Peers<S> {
     ghost use Rattle.hc_flow.specs.Flows.{TellsOwed};
     ghost use Rattle.hc_flow.specs.Hearings.{wants_turn};
-    ghost use Rattle.hc_link_traits.specs.Telling.{TellsSent};
+    ghost use Rattle.hc_links.specs.Telling.{TellsSent};
     ghost use Rattle.hc_order.specs.Log.{Move};
     ghost use Rattle.hc_peers.specs.Behind.{IsSentTo, LearnsAt, OpensAt, WritesTo, is_heard_at, may_be_written_to};
     ghost use Rattle.hc_peers.specs.Keeping.{KeepsPeers};

@@ -3,7 +3,7 @@
 ghost use Rattle.std.specs.Prelude.{◌≡◌, ◌<◌, ◌&&◌, ◌||◌, not, true, false, ℕ, List, [], None, is_some, IfOk, IfSome, IsErr};
 ghost use Rattle.hc_peers.specs.Behind.{left_to_read};
 
-use hc_flow::{Emptying, Flow, Heard, Progress, Readiness, Stream, hear_flow, weight_of};
+use hc_flow::{Emptying, Flow, ForwardProgress, Heard, Readiness, Stream, hear_flow, weight_of};
 use hc_framing::MessageText;
 use hc_order::Reason;
 use std::alloc::{AllocError, Global};
@@ -15,7 +15,7 @@ pub(crate) struct OriginLink<S: Stream> {
     /// The request once more: behind a link that fails before it is known to work, another one is tried.
     spare: Option<MessageText>,
     /// How the forward is getting on there.
-    pub(crate) progress: Progress,
+    pub(crate) progress: ForwardProgress,
 }
 
 impl<S: Stream + Drop> OriginLink<S> {
@@ -29,7 +29,7 @@ impl<S: Stream + Drop> OriginLink<S> {
         alloc: Global,
         stream: S,
         request: &MessageText,
-        progress: Progress,
+        progress: ForwardProgress,
     ) -> Result<Self, AllocError>
         ensures linked { S.has_given stream [] → S.has_got stream [] → IfOk result (λ link. IsLinked S.has_given S.has_got link request.now []) }
         ensures behind { IfOk result (IsOpeningLink progress.begun progress.last) }

@@ -4,7 +4,7 @@ ghost use Rattle.std.specs.Prelude.{◌≡◌, ◌++◌, ◌∷◌, [], ◌&&◌
 
 use crate::lingerer::{Lingerer, Remainder};
 use crate::peers::Peers;
-use hc_agenda::Candidate;
+use hc_agenda::PlaceCandidate;
 use hc_flow::Stream;
 use std::alloc::AllocError;
 use std::mem;
@@ -126,7 +126,7 @@ impl<S: Stream + Drop> Peers<S> {
     }
 
     /// The next forward that may have a place now, which is taken out.
-    pub fn next_candidate(&mut self) -> Option<Candidate>
+    pub fn next_candidate(&mut self) -> Option<PlaceCandidate>
         ensures kept { KeepsPeers S.has_given S.has_got self.old self.new }
         ensures rest { self.new ≡ record self.old { places = self.new.places } }
         ensures first { IsNext self.old.places result }
@@ -137,7 +137,7 @@ impl<S: Stream + Drop> Peers<S> {
     }
 
     /// A forward has a place. Where memory is refused, all is as it was.
-    pub fn give_place(&mut self, candidate: Candidate) -> Result<(), AllocError>
+    pub fn give_place(&mut self, candidate: PlaceCandidate) -> Result<(), AllocError>
         requires left { HasPlaceLeft self.old.places }
         ensures kept { KeepsPeers S.has_given S.has_got self.old self.new }
         ensures given { OnOk result (has_place candidate.forward self.new.places ≡ true) }

@@ -3,10 +3,10 @@
 ghost use Rattle.std.specs.Prelude.{◌≡◌, Ok, Some};
 ghost use Rattle.hc_peers.specs.Heard.{told, told_of_client, told_of_forward};
 
-use hc_events::Happening;
 use hc_flow::Heard;
-use hc_link_traits::Happened;
+use hc_links::Happened;
 use hc_order::{Reason, Receiver};
+use hc_service::Happening;
 
 /// What is heard of a link, as something that happens. A client's link is never lost: its end is told.
 pub fn happened(link: Receiver, heard: Heard) -> Option<Happened>

@@ -12,7 +12,7 @@ mod reacting;
 mod releasing;
 mod sending;
 
-pub use outcomes::{Outcome, fail, renew, respond, store_behind};
+pub use outcomes::{AnsweredForward, Outcome, fail, renew, respond, store_behind};
 pub use reacting::{OpenBehind, Reaction, Underway, forward_anew, react};
 pub use releasing::{forward_alone, release};
 pub use sending::{

@@ -18,7 +18,7 @@ use hc_service::{
     Cause, ForwardKind, OpenForward, WantedReply, failure_status, made_reply, may_replace,
     passed_reply, replacing_reply,
 };
-use hc_store::{Put, Store};
+use hc_store::{NotModified, Put, Store};
 use hc_update::{Stored, initial, invalidates};
 use std::alloc::{AllocError, Global};
 use std::hash::BuildHasher;
@@ -31,6 +31,17 @@ pub enum Outcome {
     /// Nothing yet: what it was to be answered from is gone, so it goes to the origin anew (RFC 9111
     /// section 4.3.3).
     GoesAnew,
+}
+
+/// A forward that was sent for an open exchange, and that the origin has answered.
+#[derive(Drop)]
+pub struct AnsweredForward {
+    /// The request, as it was sent.
+    pub sent: OpenForward,
+    /// Why it went to the origin.
+    pub cause: Cause,
+    /// How it went there.
+    pub kind: ForwardKind,
 }
 
 /// Whether a response is a 304 to a GET.
@@ -58,14 +69,14 @@ pub fn renew<S: BuildHasher>(
         store.invalidate(&forward.target);
     }
     if may_update(forward, response) {
-        store.freshen(
-            &forward.target,
-            &forward.request,
-            response,
-            forward.moment,
-            moment,
+        let not_modified = NotModified {
+            forward: &forward.request,
+            head: response,
+            request_time: forward.moment,
+            response_time: moment,
             position,
-        );
+        };
+        store.freshen(&forward.target, not_modified);
     }
 }
 
@@ -323,24 +334,24 @@ fn answered<S: BuildHasher>(
 ///
 /// The moment of the reply, which is also that of the response, lies before the year 10000.
 pub fn respond<S: BuildHasher>(
-    alloc: Global,
     store: &mut Store<S>,
     wanted: &WantedReply<'_>,
-    forward: OpenForward,
-    cause: Cause,
-    kind: ForwardKind,
+    forward: AnsweredForward,
     position: u64,
     response: Message<ResponseHead>,
 ) -> Result<Outcome, AllocError>
     requires { wanted.now.moment < end_of_moments }
-    ensures { IfOk result (λ outcome. Responds (rule_of cause (is_conditional kind) forward.request response.head)
-        (record { wanted = wanted.now; forward = forward; cause = cause; response = response })
+    ensures { IfOk result (λ outcome. Responds
+        (rule_of forward.cause (is_conditional forward.kind) forward.sent.request response.head)
+        (record { wanted = wanted.now; forward = forward.sent; cause = forward.cause; response = response })
         position store.old (owed_outcome outcome) store.new) }
 {
+    let alloc = response.head.fields.alloc();
+    let AnsweredForward { sent, cause, kind } = forward;
     if is_validation(kind, &response.head) {
-        return validated_outcome(alloc, store, wanted, &forward, cause, position);
+        return validated_outcome(alloc, store, wanted, &sent, cause, position);
     }
-    Ok(Outcome::Replies(answered(alloc, store, wanted, forward, cause, response)?))
+    Ok(Outcome::Replies(answered(alloc, store, wanted, sent, cause, response)?))
 }
 
 /// The reply to a request whose forward failed, by what the store chose.

@@ -242,7 +242,6 @@ fn forward_reaction(
 
 /// What the case makes of a request, with what the store chose.
 fn chosen_reaction(
-    alloc: Global,
     wanted: &WantedReply<'_>,
     target: &Target,
     request: &Message<RequestHead>,
@@ -255,6 +254,7 @@ fn chosen_reaction(
         (λ reaction. owed_reaction reaction
         ≡ chosen_reaction wanted.now target.now request.now forwards (option_copied chosen.entry) (case_of case.entry)) }
 {
+    let alloc = request.head.fields.alloc();
     match case {
         Case::Hit(stored) => hit_reaction(alloc, wanted, target, open_behind, stored),
         Case::Forward(cause) => forward_reaction(alloc, wanted, target, request, chosen, cause),
@@ -278,7 +278,7 @@ fn react_by_store<S: BuildHasher>(
     let known = store.knows(target);
     let chosen = store.choose(target, &request.head.fields)?;
     let case = case_by_store(&request.head.fields, known, chosen, wanted.moment);
-    chosen_reaction(alloc, wanted, target, request, open_behind, chosen, case)
+    chosen_reaction(wanted, target, request, open_behind, chosen, case)
 }
 
 /// The forward that a request waits for: of those that it may wait for the least, where nothing is stored of its

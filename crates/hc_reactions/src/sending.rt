@@ -28,7 +28,7 @@ pub struct Addressee {
     pub closes: bool,
 }
 
-/// Records a client's request at the last moment of the numbers, in whole seconds since 1970, and answers
+/// Records a client's request at the last moment of the numbers, in whole seconds since 1970, and returns
 /// the number of its exchange. The body is shared.
 pub fn record_request(
     alloc: Global,
@@ -51,7 +51,7 @@ pub fn record_request(
     Ok(number)
 }
 
-/// Records a request at the last moment and sends it to the origin, and answers the number of its forward.
+/// Records a request at the last moment and sends it to the origin, and returns the number of its forward.
 /// `cause` is the number of the exchange that it is sent for, if it is for one. The body is shared.
 pub fn send_request(
     alloc: Global,

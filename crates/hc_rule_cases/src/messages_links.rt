@@ -1,16 +1,17 @@
 //! What arrives on links.
 ghost use Rattle.std.specs.Prelude.{◌≡◌, ◌<◌, IfOk, Ok, false, true};
-ghost use Rattle.hc_links.specs.RequestReading.{CanRead};
-ghost use Rattle.hc_links.specs.ResponseReading.{CanRead as CanHear};
+ghost use Rattle.hc_incoming.specs.RequestReading.{CanRead};
+ghost use Rattle.hc_incoming.specs.ResponseReading.{CanRead as CanHear};
 
 use crate::messages_describing;
 use crate::messages_parts::{joined, kind};
 use crate::messages_whole::other;
 use hc_cases::{Case, Unanswered, show};
-use hc_events::Trouble;
 use hc_framing::{Kind, Message};
 use hc_head::{RequestHead, ResponseHead, Target};
-use hc_links::{Arrival, Ended, Heard, RequestReader, ResponseReader, refusal_status};
+use hc_incoming::{
+    Ended, RequestArrival, RequestReader, ResponseHeard, ResponseReader, Trouble, refusal_status,
+};
 use std::alloc::{AllocError, Global};
 use std::fmt::Write;
 
@@ -75,9 +76,9 @@ fn refused(reader: &mut RequestReader, text: &mut String) -> Result<bool, AllocE
 {
     'requests: loop {
         match reader.next()? {
-            Arrival::Request(message, target) => shown(message, target, text)?,
-            Arrival::Refused(trouble) => return refusal(trouble, text),
-            Arrival::More => return Ok(false),
+            RequestArrival::Request(message, target) => shown(message, target, text)?,
+            RequestArrival::Refused(trouble) => return refusal(trouble, text),
+            RequestArrival::More => return Ok(false),
         }
     }
 }
@@ -184,9 +185,9 @@ fn read_response(
 {
     'pieces: for piece in octets.chunks(size) {
         match reader.hear(piece)? {
-            Heard::Response(message) => return response(message, text),
-            Heard::Failed(trouble) => return show_failure(trouble, text),
-            Heard::More => {}
+            ResponseHeard::Response(message) => return response(message, text),
+            ResponseHeard::Failed(trouble) => return show_failure(trouble, text),
+            ResponseHeard::More => {}
         }
     }
     text.push_str("end: ")?;

@@ -165,7 +165,7 @@ fn fault_text(alloc: Global, fault: FrameFault) -> Result<String, AllocError> {
     Ok(text)
 }
 
-// Feeds the octets and their end in two pieces, and answers how many the message takes.
+// Feeds the octets and their end in two pieces, and returns how many the message takes.
 fn feed_two<H: ShownHead>(
     reader: &mut MessageReader<H>,
     octets: &[u8],

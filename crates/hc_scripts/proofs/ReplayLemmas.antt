@@ -6,7 +6,7 @@ use Rattle.hc_history.specs.declared.verdicts.Verdict.{Verdict}
 use Rattle.hc_history.specs.declared.verdicts.Verdict.TheVariants.{Yes}
 use Rattle.hc_history.specs.Verdicts.{IsVerdict}
 use Rattle.hc_history.proofs.VerdictLemmas.{one_verdict}
-use Rattle.hc_events.specs.declared.Event.{Event}
+use Rattle.hc_service.specs.declared.event.Event.{Event}
 use Rattle.hc_service.specs.declared.settings.CoreSettings.{CoreSettings}
 use Rattle.hc_service.specs.Runs.{Runs, StepResult, nothing_yet, records_given, strict}
 use Rattle.hc_service.specs.State.{State, new_state}

@@ -6,7 +6,7 @@ use Rattle.std.specs.List.{list_any, starts_with, AllByRecursion}
 use Rattle.std.proofs.lemmas.Slice.Eq.{bytes_eq-Decides}
 use Rattle.std.proofs.lemmas.List.{take-append-drop, take-append-le}
 use Rattle.std.proofs.lemmas.List.Folds.{list_any-append}
-use Rattle.hc_events.specs.declared.Event.{Event}
+use Rattle.hc_service.specs.declared.event.Event.{Event}
 use Rattle.hc_transcript.specs.Limits.{longest_line}
 use Rattle.hc_transcript.specs.Lines.{is_feed, HasLongLine}
 use Rattle.hc_scripts.specs.declared.fault.ScriptFault.{ScriptFault}

@@ -2,14 +2,14 @@
 use Rattle.std.specs.Prelude.{◌≡◌, ◌≢◌, ℕ, ◌≤◌, ◌==◌, false, List, [], ◌∷◌, ◌++◌, length}
 use Rattle.std.specs.Fmt.{decimal}
 use Rattle.std.specs.List.{list_any, AllByRecursion}
-use Rattle.hc_events.specs.declared.Event.{Event}
+use Rattle.hc_service.specs.declared.event.Event.{Event}
 use Rattle.hc_scripts.specs.declared.event_line.EventLine.{EventLine}
 use Rattle.hc_scripts.specs.declared.fault.ScriptFault.{ScriptFault}
 use Rattle.hc_scripts.specs.declared.fault.ScriptFault.TheVariants as fault
 use Rattle.hc_scripts.specs.declared.kind.EventKind.{EventKind}
 use Rattle.hc_scripts.specs.declared.kind.EventKind.TheVariants as kind
-use Rattle.hc_events.specs.declared.Happening.{Happening}
-use Rattle.hc_events.specs.declared.Happening.TheVariants.{ClientOpened, ClientBytes, ClientEnd, OriginBytes, OriginEnd, OriginFailed}
+use Rattle.hc_service.specs.declared.event.Happening.{Happening}
+use Rattle.hc_service.specs.declared.event.Happening.TheVariants.{ClientOpened, ClientBytes, ClientEnd, OriginBytes, OriginEnd, OriginFailed}
 use Rattle.hc_scripts.specs.ScriptLimits.{greatest_count, greatest_keys}
 use Rattle.hc_scripts.specs.Scripts.{settings_text, tail_text, most_octets, event_text, events_text, EventFits}
 use Rattle.hc_transcript.specs.Lines.{HasLongLine}

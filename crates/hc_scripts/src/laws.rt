@@ -1,7 +1,7 @@
 //! Laws of scripts.
 
 ghost use Rattle.std.specs.Prelude.{◌≡◌, ℕ, ◌⊎◌, List, ◌++◌};
-ghost use Rattle.hc_events.specs.declared.Event.{Event};
+ghost use Rattle.hc_service.specs.declared.event.Event.{Event};
 ghost use Rattle.hc_scripts.specs.declared.fault.ScriptFault.{ScriptFault};
 ghost use Rattle.hc_scripts.specs.declared.fault.ScriptFault.TheVariants as fault;
 ghost use Rattle.hc_scripts.specs.Scripts.{IsScript};

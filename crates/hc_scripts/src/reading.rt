@@ -8,8 +8,8 @@ ghost use Rattle.hc_scripts.specs.ScriptParts.{event_with, HasOctets, BringsOcte
 use crate::event_line::{EventLine, read_event_line};
 use crate::fault::ScriptFault;
 use crate::kind::{EventKind, has_octets};
-use hc_events::{Event, Happening};
 use hc_fields::Octets;
+use hc_service::{Event, Happening};
 use std::alloc::Global;
 
 /// The event of that line, which brings those octets; where its kind brings none they are dropped.

@@ -18,7 +18,7 @@ use hc_fields::Octets;
 use hc_index::MapIndex;
 use std::alloc::Global;
 
-/// Hands the events of the script to a new cache of its settings, and answers the transcript that it
+/// Hands the events of the script to a new cache of its settings, and returns the transcript that it
 /// records, and the verdict on that, by the strictest audit.
 pub fn replay(alloc: Global, script: &[u8]) -> Result<(Octets, Verdict), ScriptFault>
     // All events were handed to the cache, and the verdict is a Yes, as far as records can be numbered.

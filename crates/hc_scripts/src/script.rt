@@ -1,7 +1,7 @@
 //! Scripts of events.
 
 ghost use Rattle.std.specs.Prelude.{◌≡◌, ◌≢◌, ℕ, ◌⊎◌, List, IfOk, IfErr, MatchResult};
-ghost use Rattle.hc_events.specs.declared.Event.{Event};
+ghost use Rattle.hc_service.specs.declared.event.Event.{Event};
 ghost use Rattle.hc_scripts.specs.declared.fault.ScriptFault.{ScriptFault};
 ghost use Rattle.hc_scripts.specs.declared.fault.ScriptFault.TheVariants as fault;
 ghost use Rattle.hc_scripts.specs.Scripts.{IsScript};
@@ -11,9 +11,8 @@ use crate::fault::ScriptFault;
 use crate::opening::behind_opening;
 use crate::reading::read_events;
 use crate::settings_line::read_settings;
-use hc_events::Event;
 use hc_fields::Octets;
-use hc_service::CoreSettings;
+use hc_service::{CoreSettings, Event};
 use std::alloc::{AllocError, Global};
 
 /// The name of a cache that plays a script.

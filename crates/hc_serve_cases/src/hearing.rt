@@ -35,7 +35,7 @@ fn say_stream<S: Read + OpenStream>(
     say_octets(what, octets.as_slice(), has_end, out)
 }
 
-/// Reads a stream, and answers whether its end comes behind that: it may be reset, or fall silent.
+/// Reads a stream, and returns whether its end comes behind that: it may be reset, or fall silent.
 fn hear<S: Read + OpenStream>(stream: &mut S, octets: &mut Vec<u8>) -> bool {
     let read = stream.read_to_end(octets);
     read.is_ok() && matches!(stream.take_error(), Ok(None))

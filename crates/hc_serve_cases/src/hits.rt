@@ -7,8 +7,8 @@ use crate::scene::{Scene, Site, Ticking, new_core};
 use crate::telling::word_of;
 use hc_cases::Unanswered;
 use hc_connection::Connection;
+use hc_core::Core;
 use hc_drive::DriveFault;
-use hc_machine::Core;
 use std::alloc::{AllocError, Global};
 use std::fmt::Write;
 

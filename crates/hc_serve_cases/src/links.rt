@@ -1,10 +1,10 @@
 //! Links in memory, which tell what was read from them and written to them.
 
 ghost use Rattle.std.specs.Prelude.{◌≡◌, ◌≤◌, ◌++◌, [], length, take};
-ghost use Rattle.hc_link_traits.specs.Links.{IsBeginning};
+ghost use Rattle.hc_links.specs.Links.{IsBeginning};
 
 use crate::notebook::{Device, Notebook};
-use hc_link_traits::{Link, LinkFailure};
+use hc_links::{Link, LinkFailure};
 use std::alloc::Global;
 
 /// Octets that are given out, and how many were.
@@ -21,7 +21,7 @@ impl<'a> Source<'a> {
         Source { octets, at: 0 }
     }
 
-    /// Gives as many octets as the buffer takes, but at most so many, and answers how many.
+    /// Gives as many octets as the buffer takes, but at most so many, and returns how many.
     fn give(&mut self, buffer: &mut [u8], most: usize) -> usize
         ensures octets { self.new.octets ≡ self.old.octets }
         ensures fits { result ≤ length buffer.new }

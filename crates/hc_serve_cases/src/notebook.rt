@@ -79,7 +79,7 @@ impl Notebook {
         }
     }
 
-    /// Counts a call, and answers whether it fails.
+    /// Counts a call, and returns whether it fails.
     pub(crate) fn fails(&self, device: Device) -> bool {
         self.silent.set(false);
         match self.fault {

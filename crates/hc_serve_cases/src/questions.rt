@@ -1,8 +1,8 @@
-//! What a cache answers to whoever drives it.
+//! What a cache returns to whoever drives it.
 
 use hc_cases::{Unanswered, show};
-use hc_events::Incident;
-use hc_machine::Core;
+use hc_core::Core;
+use hc_service::Incident;
 use std::alloc::AllocError;
 use std::fmt::Write;
 

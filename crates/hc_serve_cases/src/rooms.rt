@@ -7,13 +7,12 @@ use crate::scene::{core_with, number_of, text_of};
 use crate::steps::{connection_of, happening};
 use crate::telling::word_of;
 use hc_cases::Unanswered;
+use hc_core::{Core, CoreFault};
 use hc_drive::{DriveFault, drive};
-use hc_events::{Event, Happening};
 use hc_framing::MessageText;
-use hc_link_traits::{Awaiting, Links, Off};
-use hc_machine::{Core, CoreFault};
+use hc_links::{Awaiting, Links, Off};
 use hc_order::{Occurrence, Reason, Receiver};
-use hc_service::CoreOptions;
+use hc_service::{CoreOptions, Event, Happening};
 use std::alloc::{AllocError, Global};
 use std::hash::BuildHasher;
 
@@ -56,7 +55,7 @@ fn say_steps(
     Ok(())
 }
 
-/// Writes what the step comes to, or what the cache answers to its question.
+/// Writes what the step comes to, or what the cache returns for its question.
 fn say_step(
     alloc: Global,
     core: &mut Core,
@@ -96,7 +95,7 @@ fn say_handed(
     Ok(())
 }
 
-/// Hands the cache what happens, and answers a word for what that comes to.
+/// Hands the cache what happens, and returns a word for what that comes to.
 fn handed(alloc: Global, core: &mut Core, of: Happening) -> &'static str {
     let mut links = Handing { of: Some(of) };
     word_of(driven(alloc, core, &mut links))

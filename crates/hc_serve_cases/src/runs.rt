@@ -5,9 +5,9 @@ use crate::notebook::{Device, Fault, Notebook};
 use crate::scene::{Scene, Site, Ticking, new_core};
 use hc_cases::Unanswered;
 use hc_connection::Connection;
+use hc_core::Core;
 use hc_drive::{DriveFault, serve_connection};
-use hc_link_traits::{Clock, Link, Origins};
-use hc_machine::Core;
+use hc_links::{Clock, Link, Origins};
 use std::alloc::Global;
 use std::hash::BuildHasher;
 

@@ -3,9 +3,9 @@
 use crate::links::Memory;
 use crate::notebook::{Device, Notebook};
 use hc_cases::Unanswered;
+use hc_core::{Core, CoreFault};
 use hc_fields::Octets;
-use hc_link_traits::{Clock, LinkFailure, Origins};
-use hc_machine::{Core, CoreFault};
+use hc_links::{Clock, LinkFailure, Origins};
 use hc_service::{CoreOptions, CoreSettings};
 use std::alloc::Global;
 use std::cell::Cell;

@@ -67,8 +67,8 @@ fn service<'a>(listen: &'a str, origin: &'a str, file: &'a str, clients: usize) 
     }
 }
 
-/// Writes what `serve` answers, what clients are replied, what the origin is sent, and the verdict on the file, which is
-/// removed then.
+/// Writes what `serve` returns, what clients are replied, what the origin is sent, and the verdict on the
+/// file, which is removed then.
 pub(crate) fn say_service<R: Net + Files + RandomSource>(
     system: &R,
     alloc: Global,
@@ -113,7 +113,7 @@ fn say_kept<S: Read + OpenStream + Drop>(
     say_streams(alloc, what, streams.as_mut_slice(), out)
 }
 
-/// A word for what `serve` answers over what is set up, with the file as it stands there before.
+/// A word for what `serve` returns over what is set up, with the file as it stands there before.
 fn served_beside<R: Net + Files + RandomSource>(
     system: &R,
     staged: &Staged<'_, R>,
@@ -144,7 +144,7 @@ where
     Ok(word_of(&serve(staged, service, settings)))
 }
 
-/// Makes the file that stands there before, if one does, and answers it where another program holds it.
+/// Makes the file that stands there before, if one does, and returns it where another program holds it.
 fn before<R: Files>(
     system: &R,
     alloc: Global,
@@ -211,7 +211,7 @@ fn open_and_claim<F: Write + Claim>(file: &mut F) -> io::Result<()> {
     file.claim()
 }
 
-/// A word for what `serve` answered.
+/// A word for what `serve` returned.
 fn word_of(answer: &Result<(), ServeFault>) -> &'static str {
     match answer {
         Ok(()) => "served",

@@ -1,8 +1,8 @@
 //! What happens at a cache, by words.
 
 use hc_cases::Unanswered;
-use hc_events::Happening;
 use hc_fields::Octets;
+use hc_service::Happening;
 use std::alloc::{AllocError, Global};
 
 /// What a client asks.

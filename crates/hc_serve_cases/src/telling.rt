@@ -86,8 +86,8 @@ fn say_each_failure(
     Ok(())
 }
 
-/// Lets that call fail, writes how that ended, beside what is recorded where none fails, and answers whether there is
-/// that call.
+/// Lets that call fail, writes how that ended, beside what is recorded where none fails, and returns whether
+/// there is that call.
 fn fails(
     alloc: Global,
     scene: &Scene<'_>,
@@ -133,14 +133,14 @@ fn say_failed(run: &Outcome, call: u64, whole: &[u8], out: &mut String) -> Resul
     write!(out, "{count} octets of {word}, ")
 }
 
-/// Writes what was answered, whether the cache is idle, and the verdict on the recording.
+/// Writes what was returned, whether the cache is idle, and the verdict on the recording.
 fn say_end(alloc: Global, run: &Outcome, out: &mut String) -> Result<(), Unanswered> {
     out.push_str(word_of(run.result))?;
     out.push_str(if run.idle { ", idle, " } else { ", " })?;
     say_verdict(alloc, run.recording.as_slice(), out)
 }
 
-/// A word for what was answered.
+/// A word for what was returned.
 pub(crate) fn word_of(answer: Result<(), DriveFault>) -> &'static str {
     match answer {
         Ok(()) => "served",

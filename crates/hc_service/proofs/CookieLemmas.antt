@@ -22,7 +22,7 @@ use Rattle.hc_store.specs.Entries.{Holdings, may_hold, sets_cookie, variants_of}
 use Rattle.hc_store.specs.Changes.{Validation, after_validation, is_validated, may_become, may_stay, renewed}
 use Rattle.hc_store.specs.Calls.{Freshens, Puts, invalidated, is_small_enough}
 use Rattle.hc_store.proofs.HeldLemmas.{all_weaken, choose_held, freshen_held, left_held, put_held, variants_held, without_held}
-use Rattle.hc_events.specs.declared.Event.{Event}
+use Rattle.hc_service.specs.declared.event.Event.{Event}
 use Rattle.hc_service.specs.declared.action.Action.{Action}
 use Rattle.hc_service.specs.declared.cases.Cause.{Cause}
 use Rattle.hc_service.specs.declared.open.OpenForward.{OpenForward}

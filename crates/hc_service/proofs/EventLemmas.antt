@@ -5,9 +5,9 @@ use Rattle.std.specs.List.{AllByRecursion}
 use Rattle.std.specs.Option.{IsSome}
 use Rattle.std.proofs.lemmas.Bool.{cases_Bool, cases_eq, ltb-false}
 use Rattle.hc_transcript.specs.Limits.{greatest_number, greatest_moment}
-use Rattle.hc_events.specs.declared.Event.{Event}
-use Rattle.hc_events.specs.declared.Happening.{Happening}
-use Rattle.hc_events.specs.declared.Happening.TheVariants.{ClientOpened, ClientBytes, ClientEnd, OriginBytes, OriginEnd, OriginFailed, Stopping as ToStop}
+use Rattle.hc_service.specs.declared.event.Event.{Event}
+use Rattle.hc_service.specs.declared.event.Happening.{Happening}
+use Rattle.hc_service.specs.declared.event.Happening.TheVariants.{ClientOpened, ClientBytes, ClientEnd, OriginBytes, OriginEnd, OriginFailed, Stopping as ToStop}
 use Rattle.hc_service.specs.declared.action.Action.{Action}
 use Rattle.hc_service.specs.declared.fault.StepFault.TheVariants.{MomentTooLarge, UnknownNumber, TooManyConnections}
 use Rattle.hc_service.specs.declared.open.OpenExchange.{OpenExchange}

@@ -5,8 +5,8 @@ use Rattle.std.specs.List.{AllByRecursion}
 use Rattle.std.proofs.lemmas.Bool.{cases_eq}
 use Rattle.hc_head.specs.Methods.{is_head}
 use Rattle.hc_framing.specs.FramingLaws.{request_laws, response_laws}
-use Rattle.hc_links.specs.Requests.{IsUnfinished}
-use Rattle.hc_links.specs.Responses.{IsUnfinished as IsAwaitedStill}
+use Rattle.hc_incoming.specs.Requests.{IsUnfinished}
+use Rattle.hc_incoming.specs.Responses.{IsUnfinished as IsAwaitedStill}
 use Rattle.hc_service.specs.declared.action.Action.{Action}
 use Rattle.hc_service.specs.declared.cases.Cause.{Cause}
 use Rattle.hc_service.specs.declared.cases.Cause.TheVariants.{UriMiss}

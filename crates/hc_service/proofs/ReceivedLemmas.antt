@@ -26,7 +26,7 @@ use Rattle.hc_framing.specs.declared.framing.Framing.TheVariants.{Nothing, Sized
 use Rattle.hc_framing.specs.declared.message.Message.{Message}
 use Rattle.hc_framing.specs.Framing.{◌>>=◌, refuse, members_of, first_length, each_writes, common_length, sized_by, sized, coded_by, coded, is_http10, framing_by, response_framing, ends_with_head}
 use Rattle.hc_framing.specs.Messages.{BeginsBody, IsWholeBody, response_without_framing, fields_without_framing}
-use Rattle.hc_links.specs.Requests.{IsRequest}
+use Rattle.hc_incoming.specs.Requests.{IsRequest}
 use Rattle.hc_service.specs.Turns.{IsAnswer}
 use Rattle.hc_service.specs.Laws.{IsReceivedAnswer, IsReceivedAsk}
 

@@ -19,7 +19,7 @@ use Rattle.hc_transcript.specs.Records.{told as cause_told}
 use Rattle.hc_transcript.specs.History.{exchange_of, forward_of, cause_of, next_position}
 use Rattle.hc_transcript.specs.Written.{IsWritableAsk, IsWritableAnswer}
 use Rattle.hc_history.specs.Right.{IsRight}
-use Rattle.hc_links.specs.Requests.{IsRequest}
+use Rattle.hc_incoming.specs.Requests.{IsRequest}
 use Rattle.hc_store.specs.Entries.{Holdings, knows}
 use Rattle.hc_update.specs.declared.stored.Stored.{Stored}
 use Rattle.hc_service.specs.declared.action.Action.{Action}

@@ -9,7 +9,7 @@ use Rattle.hc_framing.specs.declared.message.Message.{Message}
 use Rattle.hc_framing.specs.FramingLaws.{request_laws}
 use Rattle.hc_framing.specs.Messages.{BeginsBody}
 use Rattle.hc_framing.proofs.BodyLemmas.{body-append, body_within}
-use Rattle.hc_links.specs.Requests.{IsRequest}
+use Rattle.hc_incoming.specs.Requests.{IsRequest}
 use Rattle.hc_service.specs.Numbers.{is_later}
 use Rattle.hc_service.specs.State.{Table, Connection, Awaited, new_connection}
 use Rattle.hc_service.specs.Turns.{after_client_octets, after_request, after_reply, after_leaving, after_origin_octets}

@@ -24,7 +24,7 @@ use Rattle.hc_transcript.specs.Items.{Item, Exchange, Forward}
 use Rattle.hc_transcript.specs.History.{exchange_of, forward_of, cause_of, last_moment, last_exchange, last_forward}
 use Rattle.hc_transcript.specs.Transcript.{AreReadAs}
 use Rattle.hc_history.specs.States.{state_at}
-use Rattle.hc_links.specs.Requests.{IsRequest}
+use Rattle.hc_incoming.specs.Requests.{IsRequest}
 use Rattle.hc_store.specs.Entries.{AllHeld}
 use Rattle.hc_service.specs.declared.cases.Cause.{Cause}
 use Rattle.hc_service.specs.declared.numbers.Numbers.{Numbers}

@@ -19,7 +19,7 @@ use Rattle.hc_transcript.specs.Items.{Item, OriginResponse, Forward}
 use Rattle.hc_transcript.specs.Limits.{greatest_number}
 use Rattle.hc_store.specs.Entries.{AllHeld, Holdings, sets_cookie}
 use Rattle.hc_service.specs.declared.open.OpenForward.{OpenForward}
-use Rattle.hc_events.specs.declared.Happening.{Happening}
+use Rattle.hc_service.specs.declared.event.Happening.{Happening}
 use Rattle.hc_service.specs.Agreement.{Agrees, HasSource, History, IsConsistent}
 use Rattle.hc_service.specs.declared.action.Action.{Action}
 use Rattle.hc_service.specs.declared.action.Action.TheVariants as action

@@ -4,11 +4,11 @@ use Rattle.std.specs.FinMap.{get, len}
 use Rattle.std.specs.List.{AllByRecursion}
 use Rattle.hc_head.specs.Methods.{is_head}
 use Rattle.hc_transcript.specs.Limits.{greatest_moment}
-use Rattle.hc_events.specs.declared.Event.{Event}
-use Rattle.hc_events.specs.declared.Happening.{Happening}
-use Rattle.hc_events.specs.declared.Happening.TheVariants.{ClientOpened, ClientBytes, ClientEnd, OriginBytes, OriginEnd, OriginFailed, Stopping as ToStop}
-use Rattle.hc_links.specs.Requests.{IsUnfinished}
-use Rattle.hc_links.specs.Responses.{IsUnfinished as IsAwaitedStill}
+use Rattle.hc_service.specs.declared.event.Event.{Event}
+use Rattle.hc_service.specs.declared.event.Happening.{Happening}
+use Rattle.hc_service.specs.declared.event.Happening.TheVariants.{ClientOpened, ClientBytes, ClientEnd, OriginBytes, OriginEnd, OriginFailed, Stopping as ToStop}
+use Rattle.hc_incoming.specs.Requests.{IsUnfinished}
+use Rattle.hc_incoming.specs.Responses.{IsUnfinished as IsAwaitedStill}
 use Rattle.hc_service.specs.declared.action.Action.{Action}
 use Rattle.hc_service.specs.declared.fault.StepFault.{StepFault}
 use Rattle.hc_service.specs.declared.fault.StepFault.TheVariants.{MomentTooLarge, UnknownNumber, TooManyConnections}

@@ -7,8 +7,8 @@ use Rattle.hc_head.specs.declared.head.Target.{Target}
 use Rattle.hc_head.specs.Methods.{is_head}
 use Rattle.hc_framing.specs.declared.message.Message.{Message}
 use Rattle.hc_replies.specs.Replies.{generated_reply}
-use Rattle.hc_links.specs.Requests.{IsRequest, IsRefused, IsUnfinished, IsCutOff as IsCutShort}
-use Rattle.hc_links.specs.Responses.{IsResponse, IsResponseAtEnd, IsFailure, IsFailureAtEnd}
+use Rattle.hc_incoming.specs.Requests.{IsRequest, IsRefused, IsUnfinished, IsCutOff as IsCutShort}
+use Rattle.hc_incoming.specs.Responses.{IsResponse, IsResponseAtEnd, IsFailure, IsFailureAtEnd}
 use Rattle.hc_store.specs.Entries.{Holdings}
 use Rattle.hc_service.specs.declared.action.Action.{Action}
 use Rattle.hc_service.specs.declared.action.Action.TheVariants.{CloseClient}

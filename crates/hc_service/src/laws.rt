@@ -26,7 +26,7 @@ ghost use Rattle.hc_service.specs.declared.numbers.Numbers.{Numbers};
 ghost use Rattle.hc_service.specs.Numbers.{asked, is_later, noted, one_more, sent};
 ghost use Rattle.hc_service.specs.Sending.{recorded_format, failure_record, forward_record, records_of, reply_record, request_record, response_record};
 ghost use Rattle.hc_store.specs.Choosing.{is_selected, is_selected_validated};
-ghost use Rattle.hc_links.specs.Requests.{IsRequest};
+ghost use Rattle.hc_incoming.specs.Requests.{IsRequest};
 ghost use Rattle.hc_store.specs.Entries.{AllHeld, Holdings, sets_cookie};
 ghost use Rattle.hc_service.specs.declared.cases.Cause.{Cause};
 ghost use Rattle.hc_service.specs.declared.open.OpenForward.{OpenForward};
@@ -35,7 +35,7 @@ ghost use Rattle.hc_service.specs.Choices.{Finds, Stores, may_update, validation
 ghost use Rattle.hc_service.specs.Laws.{ClosesOn, HasSources, HoldsNoCookie, IsCountedOn, IsReceivedAnswer, IsReceivedAsk, IsToldStatus, is_response, recorded_forward, with_record, KeepsAgreement, KeepsAll, KeepsOn};
 ghost use Rattle.hc_service.specs.declared.action.Action.{Action};
 ghost use Rattle.hc_service.specs.Serves.{Run, Serves, Takes, Turn};
-ghost use Rattle.hc_events.specs.declared.Event.{Event};
+ghost use Rattle.hc_service.specs.declared.event.Event.{Event};
 ghost use Rattle.hc_transcript.specs.declared.record.Record.{Record};
 ghost use Rattle.hc_service.specs.declared.settings.CoreSettings.{CoreSettings};
 ghost use Rattle.hc_service.specs.declared.settings.CoreOptions.{CoreOptions};
@@ -53,7 +53,7 @@ ghost use Rattle.hc_service.specs.Serving.{is_fresh, may_be_served, may_replace}
 ghost use Rattle.hc_service.specs.Turns.{IsAnswer, after_origin_octets, after_client_octets, after_request, replied, wanted_now};
 ghost use Rattle.hc_service.specs.Settings.{AreGood, is_name};
 ghost use Rattle.hc_service.specs.Follows.{Follows};
-ghost use Rattle.hc_events.specs.declared.Happening.TheVariants.{ClientOpened, Stopping};
+ghost use Rattle.hc_service.specs.declared.event.Happening.TheVariants.{ClientOpened, Stopping};
 
 use hc_rules::{forwards_are_writable, forwards_keep_the_target};
 

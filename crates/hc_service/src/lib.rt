@@ -1,11 +1,13 @@
-//! What a shared cache owes: which case a request is, what is done with what the origin answers, and
-//! what each event makes of what the cache knows.
+//! What happens to a shared cache, and what it owes: which case a request is, what is done with what the origin
+//! answers, and what each event makes of what the cache knows.
 #![tactic(auto)]
 
 mod action;
 mod asking;
 mod cases;
+mod event;
 mod fault;
+mod incidents;
 mod joining;
 mod laws;
 mod numbers;
@@ -14,11 +16,14 @@ mod replying;
 mod serving;
 mod settings;
 mod settings_fault;
+mod stock;
 
 pub use action::Action;
 pub use asking::{ends_connection, is_bypass};
 pub use cases::{Case, Cause, case_before_store, case_by_store};
+pub use event::{Event, Happening};
 pub use fault::StepFault;
+pub use incidents::Incident;
 pub use joining::{is_joinable, may_be_joined, may_be_shared, plain_kind};
 pub use laws::{
     agreement_is_ready, events_keep_agreement, few_wait_for_each_forward, hits_are_right,
@@ -43,3 +48,4 @@ pub use serving::{
 };
 pub use settings::{CoreOptions, CoreSettings, is_name, is_room, is_size};
 pub use settings_fault::CoreFault;
+pub use stock::Stock;

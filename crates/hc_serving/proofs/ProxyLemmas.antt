@@ -6,10 +6,10 @@ use Rattle.hc_service.specs.declared.settings.CoreSettings.{CoreSettings}
 use Rattle.hc_service.specs.Sending.{recorded_format}
 use Rattle.hc_service.specs.Settings.{AreGood}
 use Rattle.hc_service.specs.State.{new_state_with}
-use Rattle.hc_machine.specs.Steps.{Cache, StandsFor}
-use Rattle.hc_link_traits.specs.Buffers.{HasGot}
+use Rattle.hc_core.specs.Steps.{Cache, StandsFor}
+use Rattle.hc_links.specs.Buffers.{HasGot}
 use Rattle.hc_drive.specs.declared.fault.DriveFault.{DriveFault}
-use Rattle.hc_drive.specs.Crowds.{GivesCrowd, Stage, Telling, stage}
+use Rattle.hc_drive.specs.Crowds.{DriveStage, GivesCrowd, Telling, stage}
 use Rattle.hc_serving.specs.Proxies.{HasServed, IsExpectedEnd}
 
 -- ---- a new recorder
@@ -20,7 +20,7 @@ got_all has_got link waiting octets none got = (octets, got, sym (ap (λ w. octe
 
 -- ---- what came of serving
 
-module _ (T : Type 0) (most : ℕ) (was_safe : Type 0) (new : Telling) (from : Stage) (cache : Cache) where
+module _ (T : Type 0) (most : ℕ) (was_safe : Type 0) (new : Telling) (from : DriveStage) (cache : Cache) where
   -- what is safe if that was so is safe where it was
   pub safely_served : (result : Result T DriveFault) → was_safe → GivesCrowd most was_safe result new from cache → GivesCrowd most (Unit {0}) result new from cache
   safely_served (Ok done) was ends = ends

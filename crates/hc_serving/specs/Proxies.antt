@@ -7,10 +7,10 @@ use Rattle.hc_service.specs.declared.settings.CoreSettings.{CoreSettings}
 use Rattle.hc_service.specs.Runs.{records_given}
 use Rattle.hc_service.specs.Sending.{recorded_format}
 use Rattle.hc_service.specs.State.{new_state_with}
-use Rattle.hc_machine.specs.Steps.{Cache, StandsFor}
+use Rattle.hc_core.specs.Steps.{Cache, StandsFor}
 use Rattle.hc_crowd.specs.declared.limits.Limits.{Limits}
 use Rattle.hc_drive.specs.declared.fault.DriveFault.{DriveFault}
-use Rattle.hc_drive.specs.Crowds.{GivesCrowd, IsExpectedOf, Stage, Telling, stage}
+use Rattle.hc_drive.specs.Crowds.{DriveStage, GivesCrowd, IsExpectedOf, Telling, stage}
 use Rattle.hc_drive.specs.Drives.{answers_by}
 use Rattle.hc_serving.specs.declared.fault.ServeFault.{ServeFault}
 use Rattle.hc_serving.specs.declared.fault.ServeFault.TheVariants as serve
@@ -49,7 +49,7 @@ TellsEnd (Err why) (Ok told) = ⊥
 TellsEnd (Err why) (Err fault) = EndsFor why fault
 
 -- where a fault ended it, memory was refused, the recorder failed, or the driver had gone round as often as it goes, as far as records can be numbered
-abbrev pub IsExpectedEnd : (T : Type 0) (most : ℕ) (was_safe : Type 0) (new : Telling) (from : Stage) (cache : Cache) (result : Result T DriveFault)
+abbrev pub IsExpectedEnd : (T : Type 0) (most : ℕ) (was_safe : Type 0) (new : Telling) (from : DriveStage) (cache : Cache) (result : Result T DriveFault)
     → GivesCrowd most was_safe result new from cache → Type 0
 IsExpectedEnd T most was_safe new from cache (Ok done) ends = Unit {0}
 IsExpectedEnd T most was_safe new from cache (Err why) breaks =

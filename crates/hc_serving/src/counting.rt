@@ -2,13 +2,12 @@
 
 use hc_access::reply_head;
 use hc_crowd::{Counted, Crowd, Limits, Whose, World};
-use hc_events::Happening;
 use hc_flow::Stream;
-use hc_link_traits::Awaiting;
+use hc_links::Awaiting;
 use hc_monitor::{Befell, Board, Figures, Kind, Stand, class_of, metrics_of, way_of};
 use hc_order::{Occurrence, Receiver};
 use hc_peers::Peers;
-use hc_service::Action;
+use hc_service::{Action, Happening};
 use std::alloc::{AllocError, Global};
 
 /// What bounds a proxy, and what it is for.

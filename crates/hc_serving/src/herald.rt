@@ -8,7 +8,7 @@ use crate::wrongs::{SpokenWrongs, say_wrongs};
 use hc_access::{AccessLog, Target};
 use hc_crowd::{Counted, Crowd, World};
 use hc_drive::Watcher;
-use hc_link_traits::Awaiting;
+use hc_links::Awaiting;
 use hc_notices::{Notice, Voice};
 use hc_order::Occurrence;
 use hc_peers::MOST_TURNED_AWAY;

@@ -1,6 +1,6 @@
 //! Why a recording has ended while serving goes on.
 
-use hc_link_traits::{Buffered, Lapsing, Off, Silence};
+use hc_links::{Buffered, Lapsing, Off, Silence};
 use hc_sockets::{Device, SystemLink};
 use std::io;
 use std::io::ErrorKind;

@@ -9,7 +9,7 @@ use crate::claim::Claim;
 use crate::fault::ServeFault;
 use crate::recordable::{Unrecordable, refused_kind};
 use crate::serving::opened;
-use hc_link_traits::{Buffered, Lapsing, Link};
+use hc_links::{Buffered, Lapsing, Link};
 use hc_sockets::{Recording, SystemLink};
 use hc_transcript::Format;
 use std::alloc::Global;

@@ -7,7 +7,7 @@ ghost use Rattle.hc_service.specs.declared.settings.CoreSettings.{CoreSettings};
 ghost use Rattle.hc_service.specs.Sending.{recorded_format};
 ghost use Rattle.hc_service.specs.Settings.{AreGood};
 ghost use Rattle.hc_service.specs.State.{new_state_with};
-ghost use Rattle.hc_machine.specs.Steps.{StandsFor};
+ghost use Rattle.hc_core.specs.Steps.{StandsFor};
 ghost use Rattle.hc_order.specs.Log.{Move};
 ghost use Rattle.hc_drive.specs.Crowds.{GivesCrowd, GivesRecording, stage, telling};
 ghost use Rattle.hc_notices.specs.Notices.{SaysSome};
@@ -19,10 +19,10 @@ use crate::logging::Addressed;
 use crate::recorded::Recorded;
 use crate::watched::{Opening, serve_links};
 use hc_access::{AccessLog, Target};
+use hc_core::Core;
 use hc_crowd::{Crowd, World};
 use hc_drive::DriveFault;
-use hc_link_traits::{Batches, Link, Links, Off, Recorder};
-use hc_machine::Core;
+use hc_links::{Batches, Link, Links, Off, Recorder};
 use hc_sockets::{Breakdown, Health};
 use std::collections::hash_map::RandomState;
 use std::io;
@@ -176,8 +176,8 @@ fn fault_of(fault: DriveFault, recording: Option<io::Error>) -> ServeFault
         DriveFault::Recorder => {
             ServeFault::Record(recording.unwrap_or(io::Error::from(ErrorKind::Other)))
         }
-        // It is want of memory: a crowd tells a cache of nothing that it answers by another fault, and of no moment that is
-        // too large.
+        // It is want of memory: a crowd tells a cache of nothing for which it returns another fault, and of
+        // no moment that is too large.
         DriveFault::Core(_) => ServeFault::Memory,
         // A crowd has no client whose link ends it all.
         DriveFault::Client => ServeFault::Memory,

@@ -5,9 +5,9 @@ ghost use Rattle.hc_serving.specs.Outcomes.{MeansFor};
 
 use crate::claim::Claim;
 use crate::fault::ServeFault;
-use hc_drive::{ServingFault, serve_clients};
-use hc_link_traits::{Clients, Clock as Moments, Link, Origins};
-use hc_machine::{Core, CoreFault};
+use hc_core::{Core, CoreFault};
+use hc_drive::{ServingFault, Surroundings, serve_clients};
+use hc_links::{Clients, Clock as Moments, Link, Origins};
 use hc_service::{CoreSettings, StepFault};
 use hc_sockets::{Listening, Origin, Recording, SystemClock, SystemLink};
 use hc_transcript::Format;
@@ -92,40 +92,27 @@ fn serve_from<R: Net + Files + Clock + AllocGlobal>(
         net: rt,
         address: service.origin,
     };
-    let beside = Beside {
+    let surroundings = Surroundings {
         origins: &origin,
         clock: &SystemClock { system: rt },
-        count: service.connections,
     };
-    match serve_by(rt.alloc(), core, clients, beside, recorder) {
+    let count = service.connections;
+    match serve_by(rt.alloc(), core, clients, &surroundings, recorder, count) {
         Ok(()) => Ok(()),
         Err(fault) => Err(fault_of(fault, clients.reason(), recorder.reason())),
     }
 }
 
-/// What else clients are served by.
-#[derive(Clone, Copy)]
-struct Beside<'a, O, K> {
-    origins: &'a O,
-    clock: &'a K,
-    /// How many of them are served.
-    count: u64,
-}
-
-/// Serves clients of any kind.
+/// Serves so many clients, of any kind.
 fn serve_by<A: Clients, O: Origins, K: Moments, T: Link>(
     alloc: Global,
     core: &mut Core<RandomState>,
     clients: &mut A,
-    beside: Beside<'_, O, K>,
+    surroundings: &Surroundings<'_, O, K>,
     recorder: &mut T,
+    count: u64,
 ) -> Result<(), ServingFault> {
-    let Beside {
-        origins,
-        clock,
-        count,
-    } = beside;
-    serve_clients(alloc, core, clients, origins, clock, recorder, count)
+    serve_clients(alloc, core, clients, surroundings, recorder, count)
 }
 
 /// A new cache, whose store hashes targets with keys that no client knows.
@@ -219,7 +206,8 @@ fn fault_of(
         },
         ServingFault::Recorder => ServeFault::Record(recording.unwrap_or(unknown)),
         ServingFault::Core(StepFault::MomentTooLarge) => ServeFault::Clock,
-        // It is want of memory: a new connection tells an idle cache of nothing that it answers by another fault.
+        // It is want of memory: a new connection tells an idle cache of nothing for which it returns another
+        // fault.
         ServingFault::Core(_) => ServeFault::Memory,
     }
 }

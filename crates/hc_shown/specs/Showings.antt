@@ -8,10 +8,10 @@ use Rattle.hc_transcript.specs.History.{next_position}
 use Rattle.hc_transcript.specs.Malformed.{BreaksOpening, IsMalformedAfter}
 use Rattle.hc_transcript.specs.Reader.{Agrees, Waits}
 use Rattle.hc_transcript.specs.Transcript.{IsTranscript, Splits}
-use Rattle.hc_shown.specs.declared.showing.Ending.{Ending}
-use Rattle.hc_shown.specs.declared.showing.Ending.TheVariants as ending
-use Rattle.hc_shown.specs.declared.showing.Reach.{Reach}
-use Rattle.hc_shown.specs.declared.showing.Reach.TheVariants as reach
+use Rattle.hc_shown.specs.declared.showing.EarlyEnding.{EarlyEnding}
+use Rattle.hc_shown.specs.declared.showing.EarlyEnding.TheVariants as ending
+use Rattle.hc_shown.specs.declared.showing.ShowingStage.{ShowingStage}
+use Rattle.hc_shown.specs.declared.showing.ShowingStage.TheVariants as stage
 use Rattle.hc_shown.specs.declared.showing.Showing.{Showing}
 use Rattle.hc_shown.specs.declared.span.Span.{Span}
 use Rattle.hc_shown.specs.Shown.{AreShown}
@@ -45,7 +45,7 @@ pub record ShowsBefore (span : Span) (octets text : List ℕ) (position : ℕ) (
       ⊎ ((format : Format) × (position ≡ next_position history) × (position ≤ span.last) × IsMalformedAfter format octets history f)
 
 -- how octets end before the last position
-abbrev pub EndsShowing : Ending → Span → List ℕ → List ℕ → Type 0
+abbrev pub EndsShowing : EarlyEnding → Span → List ℕ → List ℕ → Type 0
 EndsShowing ending.Short span octets text = ShowsFewer span octets text
 EndsShowing (ending.Broken position f) span octets text = ShowsBefore span octets text position f
 
@@ -68,16 +68,16 @@ pub record Shows (s : Showing) (span : Span) (octets text : List ℕ) : Type 0 w
   pub fewer : length has.history < span.last
 
 -- what a showing comes to that was fed these octets, and put out this text
-abbrev pub Reaches : Reach → Showing → Span → List ℕ → List ℕ → Type 0
-Reaches reach.More s span octets text = Shows s span octets text
-Reaches reach.Last s span octets text = ShowsAll span octets text
-Reaches (reach.Broken position f) s span octets text = ShowsBefore span octets text position f
+abbrev pub IsAtStage : ShowingStage → Showing → Span → List ℕ → List ℕ → Type 0
+IsAtStage stage.More s span octets text = Shows s span octets text
+IsAtStage stage.Last s span octets text = ShowsAll span octets text
+IsAtStage (stage.Broken position f) s span octets text = ShowsBefore span octets text position f
 
 -- some text was put behind what was there, and it comes to this
-abbrev pub GivesReach : Showing → Span → List ℕ → List ℕ → List ℕ → List ℕ → Reach → Type 0
-GivesReach s span octets text old new reach = (more : List ℕ) × (new ≡ old ++ more) × Reaches reach s span octets (text ++ more)
+abbrev pub GivesStage : Showing → Span → List ℕ → List ℕ → List ℕ → List ℕ → ShowingStage → Type 0
+GivesStage s span octets text old new reach = (more : List ℕ) × (new ≡ old ++ more) × IsAtStage reach s span octets (text ++ more)
 
 -- and so of a step that may not be the last
-abbrev pub GivesNext : Showing → Span → List ℕ → List ℕ → List ℕ → List ℕ → Option Reach → Type 0
+abbrev pub GivesNext : Showing → Span → List ℕ → List ℕ → List ℕ → List ℕ → Option ShowingStage → Type 0
 GivesNext s span octets text old new None = (more : List ℕ) × (new ≡ old ++ more) × HasShown s span octets (text ++ more)
-GivesNext s span octets text old new (Some reach) = GivesReach s span octets text old new reach
+GivesNext s span octets text old new (Some reach) = GivesStage s span octets text old new reach

@@ -15,7 +15,7 @@ mod values;
 pub use moment::push_moment;
 pub use octets::{SHOWN, push_octets};
 pub use page::Page;
-pub use showing::{Ending, Reach, Showing};
+pub use showing::{EarlyEnding, Showing, ShowingStage};
 pub use span::Span;
 pub use teller::{FieldOf, RecordName, Teller};
 pub use values::{push_target, push_value};

@@ -10,8 +10,8 @@ use hc_head::Target;
 use std::alloc::{AllocError, Global};
 use std::fmt::Write;
 
-/// A text that grows. Where memory is refused for a piece of it, the whole is never given: `onto` and `into_text` answer
-/// that.
+/// A text that grows. Where memory is refused for a piece of it, the whole is never given: `onto` and
+/// `into_text` return that.
 pub struct Page {
     alloc: Global,
     text: String,

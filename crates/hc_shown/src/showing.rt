@@ -5,7 +5,7 @@ ghost use Rattle.hc_transcript.specs.Items.{Item};
 ghost use Rattle.hc_transcript.specs.Reader.{HasItem, Lends, records_read, unread};
 ghost use Rattle.hc_shown.specs.declared.span.Span.{Span};
 ghost use Rattle.hc_shown.specs.Shown.{AddsIf, is_within};
-ghost use Rattle.hc_shown.specs.Showings.{EndsShowing, GivesNext, GivesReach, HasShown, Shows};
+ghost use Rattle.hc_shown.specs.Showings.{EndsShowing, GivesNext, GivesStage, HasShown, Shows};
 
 use crate::record::push_record;
 use crate::span::Span;
@@ -22,7 +22,7 @@ pub struct Showing {
 
 /// How far the records have come.
 #[derive(Clone, Copy)]
-pub enum Reach {
+pub enum ShowingStage {
     /// The last position hasn't come.
     More,
     /// It has.
@@ -33,7 +33,7 @@ pub enum Reach {
 
 /// How octets end before the last position.
 #[derive(Clone, Copy)]
-pub enum Ending {
+pub enum EarlyEnding {
     /// With their last record.
     Short,
     /// They break at this position, by this fault.
@@ -53,9 +53,9 @@ impl Showing {
     }
 
     /// Takes the next piece, and puts the records at the end of `out` that are whole then and at one of the positions.
-    pub fn feed(&mut self, piece: &[u8], out: &mut String) -> Result<Reach, AllocError>
+    pub fn feed(&mut self, piece: &[u8], out: &mut String) -> Result<ShowingStage, AllocError>
         ensures { (span : Span) (octets text : List ℕ) → Shows self.old span octets text
-            → IfOk result (GivesReach self.new span (octets ++ piece.now) text (string_bytes out.old) (string_bytes out.new)) }
+            → IfOk result (GivesStage self.new span (octets ++ piece.now) text (string_bytes out.old) (string_bytes out.new)) }
     {
         if self.reader.feed(piece).is_err() {
             return Err(AllocError);
@@ -63,9 +63,9 @@ impl Showing {
         self.show_whole(out)
     }
 
-    fn show_whole(&mut self, out: &mut String) -> Result<Reach, AllocError>
+    fn show_whole(&mut self, out: &mut String) -> Result<ShowingStage, AllocError>
         ensures { (span : Span) (octets text : List ℕ) → HasShown self.old span octets text
-            → IfOk result (GivesReach self.new span octets text (string_bytes out.old) (string_bytes out.new)) }
+            → IfOk result (GivesStage self.new span octets text (string_bytes out.old) (string_bytes out.new)) }
     {
         'records: loop {
             match self.show_next(out)? {
@@ -75,20 +75,20 @@ impl Showing {
         }
     }
 
-    // Reads the next record, if it is whole, and puts it at the end of `out` where it is at one of the positions. Where
-    // more may be whole, there is no answer.
-    fn show_next(&mut self, out: &mut String) -> Result<Option<Reach>, AllocError>
+    // Reads the next record, if it is whole, and puts it at the end of `out` where it is at one of the
+    // positions. Where more may be whole, it returns none.
+    fn show_next(&mut self, out: &mut String) -> Result<Option<ShowingStage>, AllocError>
         ensures gives { (span : Span) (octets text : List ℕ) → HasShown self.old span octets text
             → IfOk result (GivesNext self.new span octets text (string_bytes out.old) (string_bytes out.new)) }
         ensures shrinks { result ≡ Ok None → unread self.new.reader < unread self.old.reader }
     {
         if self.reader.records() >= self.span.last {
-            return Ok(Some(Reach::Last));
+            return Ok(Some(ShowingStage::Last));
         }
         match self.reader.advance() {
             Err(RecordFault::Memory) => Err(AllocError),
-            Err(fault) => Ok(Some(Reach::Broken(self.reader.position(), fault))),
-            Ok(false) => Ok(Some(Reach::More)),
+            Err(fault) => Ok(Some(ShowingStage::Broken(self.reader.position(), fault))),
+            Ok(false) => Ok(Some(ShowingStage::More)),
             Ok(true) => {
                 self.show(out)?;
                 Ok(None)
@@ -111,13 +111,13 @@ impl Showing {
     }
 
     /// How all octets that were fed end, where the last position hasn't come.
-    pub fn finish(mut self) -> Ending
+    pub fn finish(mut self) -> EarlyEnding
         ensures { (span : Span) (octets text : List ℕ) → Shows self span octets text → EndsShowing result span octets text }
     {
         let position = self.reader.position();
         match self.reader.finish() {
-            Ok(()) => Ending::Short,
-            Err(fault) => Ending::Broken(position, fault),
+            Ok(()) => EarlyEnding::Short,
+            Err(fault) => EarlyEnding::Broken(position, fault),
         }
     }
 }

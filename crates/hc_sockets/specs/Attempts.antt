@@ -1,8 +1,8 @@
 -- What is remembered of links to the origin.
 use Rattle.std.specs.Prelude.{ℕ, ◌==◌, ◌%◌, ◌+◌, ◌^◌, ◌-◌, Bool, true, List, Option, Some, None, if◌then◌else◌, min, slice_index_or}
 use Rattle.hc_sockets.specs.declared.attempts.Begun.{Begun}
-use Rattle.hc_sockets.specs.declared.attempts.Stage.{Stage}
-use Rattle.hc_sockets.specs.declared.attempts.Stage.TheVariants.{Opening, Made, Gone}
+use Rattle.hc_sockets.specs.declared.attempts.AttemptStage.{AttemptStage}
+use Rattle.hc_sockets.specs.declared.attempts.AttemptStage.TheVariants.{Opening, Made, Gone}
 
 -- the link that was begun for that forward by that attempt, to the address at that place
 abbrev pub link_of : (forward attempt address : ℕ) → Bool → Begun
@@ -18,7 +18,7 @@ told_of None = None
 told_of (Some begun) = Some (link_of begun.forward begun.attempt begun.address true)
 
 -- how far a link is, by that: one that isn't remembered counts as made
-abbrev pub stage_of : Option Begun → (forward attempt : ℕ) → Stage
+abbrev pub stage_of : Option Begun → (forward attempt : ℕ) → AttemptStage
 stage_of None forward attempt = Made
 stage_of (Some begun) forward attempt =
     if begun.forward == forward then (if begun.attempt == attempt then (if begun.told then Made else Opening) else Gone) else Made

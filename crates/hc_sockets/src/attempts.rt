@@ -2,7 +2,7 @@
 
 ghost use Rattle.std.specs.Prelude.{◌≡◌, ◌<◌, ◌%◌, Some, false, true, vec_len};
 ghost use Rattle.hc_sockets.specs.Attempts.{address_behind, link_of, remembered, stage_of, told_of};
-ghost use Rattle.hc_sockets.specs.declared.attempts.Stage.TheVariants.{Opening};
+ghost use Rattle.hc_sockets.specs.declared.attempts.AttemptStage.TheVariants.{Opening};
 
 use std::alloc::{AllocError, Global};
 
@@ -23,7 +23,7 @@ struct Begun {
 
 /// How far a link to the origin was, before something is told of it.
 #[derive(Clone, Copy, PartialEq, Eq)]
-pub(crate) enum Stage {
+pub(crate) enum AttemptStage {
     /// It began to be made.
     Opening,
     /// It was made, or isn't remembered any more.
@@ -67,15 +67,15 @@ impl Attempts {
         });
     }
 
-    /// Something is told of the link that was begun for a forward by that attempt. Answers how far it was.
-    pub(crate) fn tell(&mut self, forward: u64, attempt: u32) -> Stage
+    /// Something is told of the link that was begun for a forward by that attempt. Returns how far it was.
+    pub(crate) fn tell(&mut self, forward: u64, attempt: u32) -> AttemptStage
         ensures stage { result ≡ stage_of (remembered self.old.begun.items forward) forward attempt }
         ensures told { result ≡ Opening → remembered self.new.begun.items forward ≡ told_of (remembered self.old.begun.items forward) }
     {
         let place = place_of(forward);
         let begun = self.begun[place];
         let stage = stage_of(begun, forward, attempt);
-        if stage == Stage::Opening {
+        if stage == AttemptStage::Opening {
             self.begun[place] = told_of(begun);
         }
         stage
@@ -108,22 +108,22 @@ fn address_behind(begun: Option<Begun>, forward: u64, attempt: u32) -> usize
 }
 
 /// How far a link is, by what is remembered where it would be.
-fn stage_of(begun: Option<Begun>, forward: u64, attempt: u32) -> Stage
+fn stage_of(begun: Option<Begun>, forward: u64, attempt: u32) -> AttemptStage
     ensures { result ≡ stage_of begun forward attempt }
 {
     let Some(begun) = begun else {
-        return Stage::Made;
+        return AttemptStage::Made;
     };
     if begun.forward != forward {
-        return Stage::Made;
+        return AttemptStage::Made;
     }
     if begun.attempt != attempt {
-        return Stage::Gone;
+        return AttemptStage::Gone;
     }
     if begun.told {
-        Stage::Made
+        AttemptStage::Made
     } else {
-        Stage::Opening
+        AttemptStage::Opening
     }
 }
 

@@ -1,6 +1,6 @@
 //! The system's clock.
 
-use hc_link_traits::Clock;
+use hc_links::Clock;
 use std::time;
 
 /// The system's clock. Where it can't be read, it tells the moment 0, which a cache takes for the last that it was told.

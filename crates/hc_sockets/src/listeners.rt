@@ -210,7 +210,7 @@ impl Listeners {
         }
     }
 
-    /// The poll tells anew of each whether a client waits there. Answers whether it does.
+    /// The poll tells anew of each whether a client waits there. Returns whether it does.
     pub(crate) fn ask(&mut self, registry: &Registry) -> bool {
         let mut place = 0;
         'listeners: for listener in self.listeners.iter_mut() {
@@ -240,7 +240,7 @@ impl Listener {
         }
     }
 
-    /// The poll tells anew whether a client waits at the one at that place. Answers whether it does.
+    /// The poll tells anew whether a client waits at the one at that place. Returns whether it does.
     fn ask(&mut self, registry: &Registry, place: u64) -> bool {
         let Some(token) = Source::Listener(place).token() else {
             return false;

@@ -1,7 +1,7 @@
 //! Clients who connect to a socket.
 
 use crate::system_link::{Socket, SystemLink};
-use hc_link_traits::{Clients, Link, LinkFailure};
+use hc_links::{Clients, Link, LinkFailure};
 use std::alloc::Global;
 use std::io;
 use std::io::{ErrorKind, Read, Write};

@@ -1,7 +1,7 @@
 //! The origin behind its address.
 
 use crate::system_link::{Socket, SystemLink};
-use hc_link_traits::{LinkFailure, Origins};
+use hc_links::{LinkFailure, Origins};
 use std::net::{Net, OpenStream, TcpStream};
 
 /// An origin that is connected to for each forward.

@@ -5,7 +5,8 @@ ghost use Rattle.std.specs.Prelude.{◌≤◌, length, IfOk};
 use std::io;
 use std::io::Read;
 
-/// Reads what the buffer takes, from where the file stands to its end at most. Answers how many octets that are.
+/// Reads what the buffer takes, from where the file stands to its end at most. Returns how many octets that
+/// are.
 pub(crate) fn fill<F: Read>(file: &mut F, buffer: &mut [u8]) -> io::Result<usize>
     ensures { IfOk result (λ count. count ≤ length buffer.new) }
 {

@@ -4,7 +4,7 @@ ghost use Rattle.std.specs.Prelude.{◌≡◌, ◌||◌, ◌&&◌};
 ghost use Rattle.mio.specs.Event.{is_error, is_read_closed, is_readable, is_writable};
 
 use crate::addresses::put_addresses;
-use crate::attempts::{Attempts, Stage};
+use crate::attempts::{AttemptStage, Attempts};
 use crate::channel::Channel;
 use crate::health::Health;
 use crate::listeners::{Caller, Listeners, Unbound};
@@ -230,9 +230,9 @@ impl<'a, R: Net + Files + Clock> Sockets<'a, R> {
             }
             Source::Origin(forward, attempt) => {
                 let fails = match self.attempts.tell(forward, attempt) {
-                    Stage::Opening => true,
-                    Stage::Made => false,
-                    Stage::Gone => return None,
+                    AttemptStage::Opening => true,
+                    AttemptStage::Made => false,
+                    AttemptStage::Gone => return None,
                 };
                 let readiness = readiness_of(event, fails);
                 Some(Ready::Link(Receiver::Origin(forward), readiness))

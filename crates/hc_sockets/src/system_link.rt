@@ -2,9 +2,9 @@
 
 ghost use Rattle.std.specs.Prelude.{◌≡◌, ◌+◌, ◌<◌, IsErr};
 ghost use Rattle.std.specs.Io.{ReadsAtMost, WritesAtMost};
-ghost use Rattle.hc_link_traits.specs.Links.{greatest_count};
+ghost use Rattle.hc_links.specs.Links.{greatest_count};
 
-use hc_link_traits::{Link, LinkFailure};
+use hc_links::{Link, LinkFailure};
 use std::io;
 use std::io::{ErrorKind, Read, Write};
 use std::net::{OpenStream, Shutdown};

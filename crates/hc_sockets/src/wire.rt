@@ -25,7 +25,7 @@ impl Wire {
         self.peer
     }
 
-    /// What becomes ready at it is told by that token from now on. Answers whether the system does that.
+    /// What becomes ready at it is told by that token from now on. Returns whether the system does that.
     pub(crate) fn tell_by(&mut self, registry: &Registry, token: Token) -> bool {
         self.stream.reregister(registry, token).is_ok()
     }

@@ -24,10 +24,14 @@ pub fn read_list<L: Lines>(alloc: Global, fields: &L) -> Result<Vec<Member>, SfF
     list_in(alloc, &fields.lent())
 }
 
+/// The members, where a line that stands alone isn't copied.
 fn list_in(alloc: Global, fields: &FieldsView<'_>) -> Result<Vec<Member>, SfFault>
     ensures ok { IfOk result (λ members. cache_status fields.now ≡ Ok members.items) }
     ensures err { IfErr result (λ fault. Fails fault (cache_status fields.now)) }
 {
+    if let Some(alone) = fields.only(CACHE_STATUS) {
+        return list(alloc, alone);
+    }
     match fields.joined(alloc, CACHE_STATUS)? {
         None => Ok(Vec::new(alloc)),
         Some(text) => list(alloc, text.as_slice()),

@@ -13,7 +13,7 @@ use std::alloc::{AllocError, Global};
 
 /// A variant that may be chosen, and its place among all of its key.
 #[derive(Clone, Copy)]
-struct Candidate<'a> {
+struct PlacedVariant<'a> {
     place: usize,
     variant: &'a Stored,
 }
@@ -40,7 +40,7 @@ fn goes_before(newer: &Stored, older: &Stored) -> bool
 }
 
 /// The first of both in the order of choice, where the second was added last.
-fn preferred<'a>(best: Option<Candidate<'a>>, next: Candidate<'a>) -> Candidate<'a>
+fn preferred<'a>(best: Option<PlacedVariant<'a>>, next: PlacedVariant<'a>) -> PlacedVariant<'a>
     ensures variant { result.variant.now ≡ preferred (option_map (λ b. b.variant.now) best.entry) next.entry.variant.now }
     ensures place { (variants : List Stored) → IfSome best.entry (λ b. slice_get variants b.place ≡ Some b.variant.now)
         → slice_get variants next.entry.place ≡ Some next.entry.variant.now
@@ -64,7 +64,7 @@ pub(crate) fn chosen_place(
     let mut best = None;
     for (place, variant) in variants.iter().enumerate() {
         if is_selected(alloc, variant, presented)? {
-            best = Some(preferred(best, Candidate { place, variant }));
+            best = Some(preferred(best, PlacedVariant { place, variant }));
         }
     }
     Ok(best.map(|best| best.place))
@@ -101,7 +101,7 @@ pub(crate) fn chosen_validated_place(
     let mut best = None;
     for (place, variant) in variants.iter().enumerate() {
         if is_selected_validated(alloc, variant, presented, position)? {
-            best = Some(preferred(best, Candidate { place, variant }));
+            best = Some(preferred(best, PlacedVariant { place, variant }));
         }
     }
     Ok(best.map(|best| best.place))

@@ -14,17 +14,17 @@ use hc_update::{Stored, fits, identifies};
 
 /// A 304 that came for a target.
 #[derive(Clone, Copy)]
-pub(crate) struct NotModified<'a> {
+pub struct NotModified<'a> {
     /// The request that it answers, as it was sent to the origin.
-    pub(crate) forward: &'a RequestHead,
+    pub forward: &'a RequestHead,
     /// Its head.
-    pub(crate) head: &'a ResponseHead,
+    pub head: &'a ResponseHead,
     /// When the request was sent, in seconds since 1970.
-    pub(crate) request_time: u64,
+    pub request_time: u64,
     /// When it came, in seconds since 1970.
-    pub(crate) response_time: u64,
+    pub response_time: u64,
     /// The position of its record.
-    pub(crate) position: u64,
+    pub position: u64,
 }
 
 /// What becomes of a variant.
@@ -83,7 +83,7 @@ fn freshen_identified(
 }
 
 /// Freshens the variants that the 304 is about, and removes those that found no memory or may not be what
-/// they became. Answers whether one was freshened.
+/// they became. Returns whether one was freshened.
 pub(crate) fn freshen_all(
     variants: &mut Vec<Stored>,
     validation: NotModified<'_>,

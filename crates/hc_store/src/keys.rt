@@ -20,7 +20,7 @@ use lru::LruCache;
 use std::alloc::AllocError;
 use std::hash::BuildHasher;
 
-/// Puts a response under a key that is there, where all that is held weighs so much. Answers what it weighs
+/// Puts a response under a key that is there, where all that is held weighs so much. Returns what it weighs
 /// then.
 fn put_into<S: BuildHasher>(
     keys: &mut LruCache<Target, Variants, S>,
@@ -63,7 +63,7 @@ fn weight_behind(total: usize, dropped: Option<(Target, Variants)>) -> usize
     }
 }
 
-/// Puts a response under a new key. The least recent one goes where there are as many as may be. Answers
+/// Puts a response under a new key. The least recent one goes where there are as many as may be. Returns
 /// what all weighs then.
 fn put_new<S: BuildHasher>(
     keys: &mut LruCache<Target, Variants, S>,
@@ -88,7 +88,7 @@ fn put_new<S: BuildHasher>(
     Ok(settled.weight + others)
 }
 
-/// Puts a response that is small enough, where all that is held weighs so much. Answers what it weighs then.
+/// Puts a response that is small enough, where all that is held weighs so much. Returns what it weighs then.
 pub(crate) fn put_in<S: BuildHasher>(
     keys: &mut LruCache<Target, Variants, S>,
     total: usize,
@@ -126,7 +126,7 @@ fn remove_if_empty<S: BuildHasher>(keys: &mut LruCache<Target, Variants, S>, tar
     }
 }
 
-/// Freshens the variants of a key that a 304 is about, where all that is held weighs so much. Answers what
+/// Freshens the variants of a key that a 304 is about, where all that is held weighs so much. Returns what
 /// it weighs then.
 pub(crate) fn freshen_key<S: BuildHasher>(
     keys: &mut LruCache<Target, Variants, S>,
@@ -158,7 +158,7 @@ pub(crate) fn freshen_key<S: BuildHasher>(
     settled.weight + others
 }
 
-/// Removes a key, where all that is held weighs so much. Answers what it weighs then.
+/// Removes a key, where all that is held weighs so much. Returns what it weighs then.
 pub(crate) fn remove_key<S: BuildHasher>(
     keys: &mut LruCache<Target, Variants, S>,
     total: usize,

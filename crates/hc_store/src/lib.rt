@@ -15,6 +15,7 @@ mod variants;
 mod weights;
 
 pub use adding::MOST_VARIANTS;
+pub use freshening::NotModified;
 pub use laws::{
     no_cookie_is_chosen, the_chosen_is_the_latest, trimming_keeps_what_fits, what_is_put_is_there,
     what_would_set_a_cookie_goes,

@@ -10,7 +10,7 @@ use crate::putting::Put;
 use crate::variants::Variants;
 use crate::weights::is_small_enough;
 use hc_fields::Fields;
-use hc_head::{RequestHead, ResponseHead, Target};
+use hc_head::Target;
 use hc_update::Stored;
 use lru::{DefaultHasher, Iter, LruCache};
 use std::alloc::{AllocError, Global};
@@ -103,6 +103,7 @@ impl<S: BuildHasher> Store<S> {
     ghost use Rattle.hc_store.specs.Changes.{after_choose};
     ghost use Rattle.hc_store.specs.Calls.{Freshens, Puts, has_vary, holding, invalidated};
     ghost use Rattle.hc_store.specs.Lends.{ends_so};
+    ghost use Rattle.hc_store.specs.Views.{validation_seen};
     ghost use Rattle.std.specs.Borrow.{sem};
     ghost use Rattle.hc_fields.specs.Numbers.{end_of_moments};
 
@@ -202,7 +203,7 @@ impl<S: BuildHasher> Store<S> {
     }
 
     /// Stores a response of the target, in place of the variants that select its request. The key is the
-    /// most recent then; others go where there are too many or they are too heavy. Where the answer isn't
+    /// most recent then; others go where there are too many or they are too heavy. Where the result isn't
     /// `Stored`, nothing has changed, and the response is dropped.
     pub fn put(&mut self, target: Target, stored: Stored) -> Put
         ensures puts { Puts target stored self.old result self.new }
@@ -225,36 +226,14 @@ impl<S: BuildHasher> Store<S> {
         }
     }
 
-    /// Freshens the variants of the target that a 304 is about (RFC 9111 section 4.3.4). It answers the
-    /// forward, which was sent at that moment, came at the other, both in seconds since 1970, and stands at
-    /// that position. A variant that finds no memory, would no longer fit, or would set a cookie in a store
-    /// that keeps no such responses, is removed. Where one was freshened, the key is the most recent then.
-    pub fn freshen(
-        &mut self,
-        target: &Target,
-        forward: &RequestHead,
-        not_modified: &ResponseHead,
-        request_time: u64,
-        response_time: u64,
-        position: u64,
-    )
-        requires { response_time < end_of_moments }
-        ensures freshens { Freshens (record {
-          forward = forward.now;
-          not_modified = not_modified.now;
-          request_time = request_time;
-          response_time = response_time;
-          position = position;
-        }) target.now self.old self.new }
+    /// Freshens the variants of the target that a 304 is about (RFC 9111 section 4.3.4). A variant that finds
+    /// no memory, would no longer fit, or would set a cookie in a store that keeps no such responses, is
+    /// removed. Where one was freshened, the key is the most recent then.
+    pub fn freshen(&mut self, target: &Target, validation: NotModified<'_>)
+        requires { validation.response_time < end_of_moments }
+        ensures freshens { Freshens (validation_seen validation.entry) target.now self.old self.new }
         ensures within { IsWithin self.new }
     {
-        let validation = NotModified {
-            forward,
-            head: not_modified,
-            request_time,
-            response_time,
-            position,
-        };
         let wanted = self.keys.len();
         self.weight = freshen_key(
             &mut self.keys,

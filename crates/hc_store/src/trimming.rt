@@ -43,7 +43,7 @@ fn has_to_drop<S: BuildHasher>(
 }
 
 /// Drops the least recent keys, which weigh so much together without the most recent one, while they are
-/// too heavy beside it. Answers what those weigh that stay beside it.
+/// too heavy beside it. Returns what those weigh that stay beside it.
 pub(crate) fn drop_others<S: BuildHasher>(
     keys: &mut LruCache<Target, Variants, S>,
     mut others: usize,

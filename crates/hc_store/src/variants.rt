@@ -79,7 +79,7 @@ impl Variants {
     }
 
     /// Freshens those that the 304 is about, and removes those that found no memory or may not be what
-    /// they became. Answers whether one was freshened.
+    /// they became. Returns whether one was freshened.
     pub(crate) fn freshen(&mut self, validation: NotModified<'_>, keeps_cookies: bool) -> bool
         requires { validation.response_time < end_of_moments }
         ensures { IsLeft keeps_cookies (validation_seen validation.entry) self.old result self.new }

@@ -7,7 +7,7 @@ use crate::changes::{Change, Standing};
 use hc_head::ResponseHeadView;
 use hc_history::{Finding, Mark};
 use hc_html::{Class, Html, Tag};
-use hc_index::OpenForward;
+use hc_index::RecordedForward;
 use hc_shown::{FieldOf, Page, RecordName, Teller};
 use hc_use::Forbids;
 use std::alloc::{AllocError, Global};
@@ -82,7 +82,7 @@ fn copied(alloc: Global, page: &Page) -> Result<String, AllocError> {
 
 /// Says what a response is: its status, to which method, and what it says of its lifetime.
 pub(crate) fn say_response(
-    forward: &OpenForward,
+    forward: &RecordedForward,
     response: &ResponseHeadView<'_>,
     page: &mut Page,
 ) {

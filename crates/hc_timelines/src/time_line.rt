@@ -13,7 +13,7 @@ use hc_audit::{JudgedReply, PassedRecord};
 use hc_head::{ResponseHeadView, StatusCode, Target, is_error_status, same_target};
 use hc_history::{Mark, ReplyClaim};
 use hc_html::{Class, Html, Tag};
-use hc_index::{Index, OpenForward};
+use hc_index::{Index, RecordedForward};
 use hc_past::named;
 use hc_shown::{RecordName, Teller};
 use hc_transcript::{Kind, MeaningView};
@@ -161,7 +161,7 @@ impl TimeLine {
     // Says what a response is, and follows it if it may be stored.
     fn take_response(
         &mut self,
-        forward: &OpenForward,
+        forward: &RecordedForward,
         response: &ResponseHeadView<'_>,
         row: &mut Row,
     ) -> Result<(), AllocError> {

@@ -1,6 +1,6 @@
 //! What is open after the records so far, and the last moment and numbers.
 
-ghost use Rattle.std.specs.Prelude.{◌≡◌, ℕ, ◌+◌, ◌*◌, ◌<◌, ◌≤◌, List, [], ◌∷◌, OnOk, OnErr, IsSome, is_ok, if◌then◌else◌};
+ghost use Rattle.std.specs.Prelude.{◌≡◌, ℕ, ◌+◌, ◌*◌, ◌<◌, ◌≤◌, List, [], ◌∷◌, OnOk, OnErr, IsSome, is_some, is_ok, if◌then◌else◌};
 ghost use Rattle.std.specs.Ordering.{nat_cmp};
 ghost use Rattle.std.specs.BTreeMap.{get, btree_map_len};
 ghost use Rattle.hc_transcript.specs.Limits.{greatest_number};
@@ -61,16 +61,6 @@ fn has_right_cause(cause: ToldCause, is_open: bool) -> bool
     }
 }
 
-fn answers_open(kind: Kind, has_exchange: bool, has_forward: bool) -> bool
-    ensures { result ≡ answers_open kind has_exchange has_forward }
-{
-    match kind {
-        Kind::ClientRequest | Kind::OriginRequest => true,
-        Kind::OriginResponse | Kind::OriginFailure => has_forward,
-        Kind::ClientReply => has_exchange,
-    }
-}
-
 impl Standing {
     ghost use Rattle.hc_transcript.specs.Standing.{StandsAs, standing_cause_is_open, standing_fault, CanFollow, OpensExchange, OpensForward, ClosesExchange, ClosesForward};
 
@@ -105,13 +95,22 @@ impl Standing {
         }
     }
 
+    /// Whether that number is open, where what a record of that kind tells answers one.
+    fn answers_open(&self, kind: Kind, number: u64) -> bool
+        ensures { result ≡ answers_open kind (is_some (get nat_cmp self.now.exchanges number))
+            (is_some (get nat_cmp self.now.forwards number)) }
+    {
+        match kind {
+            Kind::ClientRequest | Kind::OriginRequest => true,
+            Kind::OriginResponse | Kind::OriginFailure => self.forwards.contains_key(&number),
+            Kind::ClientReply => self.exchanges.contains_key(&number),
+        }
+    }
+
     /// The first check that a line fails.
     pub(crate) fn fault(&self, line: &Line) -> Option<RecordFault>
         ensures { result ≡ standing_fault self.now line.now }
     {
-        let has_cause = self.standing_cause_is_open(line.cause);
-        let has_exchange = self.exchanges.contains_key(&line.number);
-        let has_forward = self.forwards.contains_key(&line.number);
         if line.moment > GREATEST_MOMENT || !has_right_length(line.kind, line.size) {
             Some(RecordFault::Line)
         } else if line.size > LONGEST_MESSAGE {
@@ -120,9 +119,9 @@ impl Standing {
             Some(RecordFault::MomentBack)
         } else if !has_right_number(line.kind, self.exchange, self.forward, line.number) {
             Some(RecordFault::Number)
-        } else if !has_right_cause(line.cause, has_cause) {
+        } else if !has_right_cause(line.cause, self.standing_cause_is_open(line.cause)) {
             Some(RecordFault::Cause)
-        } else if !answers_open(line.kind, has_exchange, has_forward) {
+        } else if !self.answers_open(line.kind, line.number) {
             Some(RecordFault::NothingOpen)
         } else {
             None

@@ -7,7 +7,7 @@ use crate::line::{Kind, Line};
 use crate::view::{MeaningView, RecordView};
 use hc_fields::Octets;
 use hc_framing::Places;
-use hc_head::{Target, lent_target};
+use hc_head::{Target, read_target};
 use std::alloc::Global;
 
 /// The least status of a final response (RFC 9110 section 15).
@@ -46,8 +46,7 @@ impl RecordPlaces {
     {
         self.places.find_request(octets)?;
         let request = self.places.request(octets);
-        let target = lent_target(self.alloc, &request.head)?;
-        self.target = target;
+        read_target(self.alloc, &request.head, &mut self.target)?;
         Ok(())
     }
 

@@ -28,7 +28,6 @@ struct Lent {
 /// Reads the records of a transcript that comes in pieces. It holds the octets of the record that it
 /// lends, and those that were fed and not yet read.
 pub struct RecordReader {
-    alloc: Global,
     /// The octets of the record that is lent, and those that wait behind it.
     held: Waiting,
     lent: Option<Lent>,
@@ -44,7 +43,6 @@ pub struct RecordReader {
 impl Drop for RecordReader {
     fn drop(self) {
         let RecordReader {
-            alloc: _,
             held,
             lent: _,
             places,
@@ -67,7 +65,6 @@ impl RecordReader {
         ensures { Agrees result [] [] [] }
     {
         RecordReader {
-            alloc,
             held: Waiting::new(alloc),
             lent: None,
             places: RecordPlaces::new(alloc),
@@ -77,7 +74,7 @@ impl RecordReader {
         }
     }
 
-    /// Takes the next piece. After a fault that fault is answered again, and nothing changes.
+    /// Takes the next piece. After a fault that fault is returned again, and nothing changes.
     pub fn feed(&mut self, piece: &[u8]) -> Result<(), RecordFault>
         ensures ok { (octets : List ℕ) (records : List Record) (h : List Item) → Agrees self.old octets records h
             → OnOk result (Agrees self.new (octets ++ piece.now) records h) }
@@ -86,7 +83,7 @@ impl RecordReader {
         ensures format { format_read self.new ≡ format_read self.old }
         ensures lends { lent self.new ≡ lent self.old }
         ensures unread { unread self.new ≡ (if is_ok result then unread self.old + length piece.now else unread self.old) }
-        // Only memory can fail, unless a fault was answered before.
+        // Only memory can fail, unless a fault was returned before.
         ensures err { IfErr result (λ f. HasFailed self.new f × ((f ≡ RecordFault.Memory) ⊎ HasFailed self.old f)) }
         ensures unfailed { OnOk result (HasNoFault self.old × HasNoFault self.new) }
         ensures failed { (f : RecordFault) → HasFailed self.old f → (result ≡ Err f) × (self.new ≡ self.old) }
@@ -102,7 +99,7 @@ impl RecordReader {
     }
 
     /// Reads the next record, if it is whole: `true` where one was read, which `view` then lends.
-    /// What was lent before is given up. After a fault that fault is answered again, and nothing
+    /// What was lent before is given up. After a fault that fault is returned again, and nothing
     /// changes.
     pub fn advance(&mut self) -> Result<bool, RecordFault>
         // Which records were read of which octets, and where each fault stands.
@@ -116,7 +113,7 @@ impl RecordReader {
         ensures counted { CountsRecord result (records_read self.old) (records_read self.new) }
         ensures position { PositionsNext result self.old self.new }
         ensures format { KeepsFormat self.old self.new }
-        // Whatever it answers, a format that was read is that of the octets.
+        // Whatever it returns, a format that was read is that of the octets.
         ensures told { (octets : List ℕ) (records : List Record) (h : List Item) → Agrees self.old octets records h
             → BeginsAs (format_read self.new) octets }
         ensures err { IfErr result (HasFailed self.new) }
@@ -220,7 +217,7 @@ impl RecordReader {
     }
 
     /// Ends the transcript: `Torn` where no opening is whole, or octets are left after the last
-    /// record that was read. After a fault that fault is answered again. Only the fault changes, and
+    /// record that was read. After a fault that fault is returned again. Only the fault changes, and
     /// where there is none nothing does.
     pub fn finish(&mut self) -> Result<(), RecordFault>
         ensures ok { (octets : List ℕ) (records : List Record) (h : List Item) → Agrees self.old octets records h
@@ -271,7 +268,7 @@ impl RecordReader {
         ensures counted { CountsRecord result (records_read self.old) (records_read self.new) }
         ensures position { PositionsNext result self.old self.new }
         ensures format { KeepsFormat self.old self.new }
-        // Whatever it answers, a format that was read is that of the octets.
+        // Whatever it returns, a format that was read is that of the octets.
         ensures told { (octets : List ℕ) (records : List Record) (h : List Item) → Agrees self.old octets records h
             → BeginsAs (format_read self.new) octets }
         ensures fault { fault_met self.new ≡ fault_met self.old }
@@ -287,7 +284,7 @@ impl RecordReader {
         self.read_record(format)
     }
 
-    /// Reads the opening, if it is whole, and answers its format.
+    /// Reads the opening, if it is whole, and returns its format.
     fn read_opening(&mut self) -> Result<Option<Format>, RecordFault>
         requires format { self.old.format ≡ None }
         requires lent { self.old.lent ≡ None }

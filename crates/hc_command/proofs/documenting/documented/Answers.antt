@@ -15,7 +15,7 @@ returns-in-Ok g c =
     let outcome = c.in_ok-outcome.outcome in
     let settings = c.args.settings.now in
     let surveyed =
-    subst (λ (s : Settings). SurveysFor (TellsOf naming.report) (λ h. AreShownIn h naming.report.wrongs.listed.items) ⊥ s (g.R.Read.remaining c.args.input.now) (g.R.Read.remaining c.surveyed.new.input) outcome)
+    subst (λ (s : Settings). SurveysFor (TellsOf naming.report) (λ h. AreShownIn h naming.report.wrongs.listed.items) ⊥ s (g.R.Read.remaining c.args.twice.now.first) (g.R.Read.remaining c.surveyed.new.input) outcome)
     c.in_ok-copy-2.ensures (c.in_ok-outcome.ensures.surveyed c.in_ok-naming.ensures.tells c.in_ok-naming.ensures.hears) in
     record {
       is = verdict_of_all (TellsOf naming.report) (λ h. AreShownIn h naming.report.wrongs.listed.items) settings _ _ outcome c.verdict-verdict.result surveyed

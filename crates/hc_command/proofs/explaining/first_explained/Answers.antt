@@ -21,9 +21,9 @@ returns-in_ok-told-in-Some g c =
     (λ octets h wrongs told surveyed. c.verdict-verdict.ensures.verdict octets c.args.terms.settings h wrongs surveyed (c.first_wrong.ensures ∙ told))
     (subst (λ (o : Option WrongReply). IfSome o (λ wrong. verdict ≡ No wrong.position wrong.reason)) c.first_wrong.ensures c.verdict-verdict.ensures.no) in
     let found = c.in-Some.found in
-    let told = subst (λ (s : Settings). IsToldAgain c.args.terms.json s (g.S.Read.remaining c.args.again.now) (g.S.Read.remaining c.told_again.new.again) (position_of found) (finding_of found)
+    let told = subst (λ (s : Settings). IsToldAgain c.args.terms.json s (g.S.Read.remaining c.args.twice.now.again) (g.S.Read.remaining c.told_again.new.again) (position_of found) (finding_of found)
     (string_bytes c.in_ok-told-in-Some.told)) c.in_ok-same.ensures c.in_ok-told-in-Some.ensures in
-    let again = subst (λ (t : List ℕ). IsToldAgain c.args.terms.json c.args.terms.settings (g.S.Read.remaining c.args.again.now) (g.S.Read.remaining c.told_again.new.again)
+    let again = subst (λ (t : List ℕ). IsToldAgain c.args.terms.json c.args.terms.settings (g.S.Read.remaining c.args.twice.now.again) (g.S.Read.remaining c.told_again.new.again)
     (position_of found) (finding_of found) t) (sym c.as_str.ensures.value) told in
     let behind = told_behind c.args.terms.json c.args.terms.settings _ _ first verdict (position_of found) (finding_of found) _ c.in-Some.ensures.of_first
     (subst (λ (o : Option WrongReply). IfSome o (λ wrong. verdict ≡ No wrong.position wrong.reason)) c.first_wrong.ensures c.verdict-verdict.ensures.no) again in
@@ -40,7 +40,7 @@ returns-in-None g c =
     (subst (λ (o : Option WrongReply). IfSome o (λ wrong. verdict ≡ No wrong.position wrong.reason)) c.first_wrong.ensures c.verdict-verdict.ensures.no) in
     let surveyed = c.in_ok-outcome.ensures.surveyed c.new-seeker.ensures.none c.new-seeker.ensures.found in
     let none : c.first_wrong.result ≡ None = c.first_wrong.ensures ∙ none_first first c.into_found.result (c.into_found.ensures.there surveyed.heard) c.in-None.is in
-    let again = g.S.Read.remaining c.args.again.now in
+    let again = g.S.Read.remaining c.args.twice.now.again in
     let nothing = subst (λ (v : Verdict). IsToldBehind c.args.terms.json c.args.terms.settings again again v None) (sym (c.verdict-verdict.ensures.none none))
     (nothing_behind c.args.terms.json c.args.terms.settings again again c.in_ok-outcome.outcome) in
     IfOk-weaker c.verdict_said-in-None.result _ _ (λ status said. record { verdict = verdict; is = is; told = None; explained = nothing; says = said }) c.verdict_said-in-None.ensures

@@ -16,14 +16,14 @@ returns g c =
     let there : place_of seeker ≡ c.args.position = search in
     let head : IsHeadLine (position_of found) (finding_of found) (string_bytes c.in_ok-head.head) = c.in_ok-head.ensures in
     let status : c.status_of-status.result ≡ reply_status (finding_of found) = search in
-    let told = subst (λ (s : Settings). IsToldAgain c.args.terms.json s (g.S.Read.remaining c.args.again.now) (g.S.Read.remaining c.told_again.new.again)
+    let told = subst (λ (s : Settings). IsToldAgain c.args.terms.json s (g.S.Read.remaining c.args.twice.now.again) (g.S.Read.remaining c.told_again.new.again)
     (position_of found) (finding_of found) (string_bytes c.in_ok-told.told)) c.in_ok-same.ensures c.in_ok-told.ensures in
     finds c.args.terms.json c.args.terms.settings _ _ _ _ (λ wrongs. IsFoundAt seeker wrongs) (λ h. HasHeard seeker h) (HasPassed seeker) c.in_ok-outcome.outcome
     (c.in_ok-outcome.ensures.surveyed c.new-seeker.ensures.tells c.new-seeker.ensures.hears)
     c.args.position (position_of found) c.in_ok-reply_said.field-0 (finding_of found) _ _ _
     (λ wrongs told. subst (λ n. IsOfPlace n wrongs (position_of found) (finding_of found)) there (c.in-Some.ensures.place wrongs told))
     (λ h heard. subst (λ n. stands_at n h ≡ true) there (c.in-Some.ensures.stands h heard search))
-    (subst (λ (t : List ℕ). IsToldAgain c.args.terms.json c.args.terms.settings (g.S.Read.remaining c.args.again.now) (g.S.Read.remaining c.told_again.new.again)
+    (subst (λ (t : List ℕ). IsToldAgain c.args.terms.json c.args.terms.settings (g.S.Read.remaining c.args.twice.now.again) (g.S.Read.remaining c.told_again.new.again)
     (position_of found) (finding_of found) t) (sym c.as_str.ensures.value) told)
     (c.in_ok-reply_said.ensures (position_of found) (finding_of found) head status)
 

@@ -1,5 +1,5 @@
 use Rattle.std.proofs.Common.{◌≡◌, ◌∙◌, ◌++◌, ◌∷◌, List, [], ap, append_assoc, append-nil, rules, subst, sym, true}
-use Rattle.hc_events.specs.declared.Event.{Event}
+use Rattle.hc_service.specs.declared.event.Event.{Event}
 use Rattle.hc_service.specs.State.{usual_options}
 use Rattle.hc_core.specs.Runs.{IsRunOf}
 use Rattle.hc_core.proofs.RunLemmas.{begins, ended, leads_to_runs, none_left, went_on, was_cut_off}

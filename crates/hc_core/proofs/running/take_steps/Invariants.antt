@@ -4,7 +4,7 @@ use Rattle.hc_service.specs.declared.settings.CoreSettings.{CoreSettings}
 use Rattle.hc_service.specs.Sending.{recorded_format}
 use Rattle.hc_service.specs.Settings.{AreGood}
 use Rattle.hc_service.specs.State.{new_state}
-use Rattle.hc_machine.specs.Steps.{StandsFor}
+use Rattle.hc_core.specs.Steps.{StandsFor}
 use Rattle.hc_core.proofs.RunLemmas.{IsRecording}
 use Rattle.hc_core.proofs.running.take_steps.Given as goal
 

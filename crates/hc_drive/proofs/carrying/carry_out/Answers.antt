@@ -2,7 +2,7 @@ use Rattle.std.proofs.Common.{◌∙◌, arith, List, subst}
 use Rattle.std.proofs.lemmas.List.{take_all}
 use Rattle.std.proofs.lemmas.Result.{err_from_is_err_and}
 use Rattle.hc_service.specs.declared.action.Action.{Action}
-use Rattle.hc_link_traits.proofs.KeepingLemmas.{links_stay, recorder_stays}
+use Rattle.hc_links.proofs.KeepingLemmas.{links_stay, recorder_stays}
 use Rattle.hc_drive.specs.Carrying.{AreDone}
 use Rattle.hc_drive.proofs.CarryLemmas.{cut_next, done_next}
 use Rattle.hc_drive.proofs.carrying.carry_out.Goals as goal

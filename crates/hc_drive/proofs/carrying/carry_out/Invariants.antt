@@ -1,6 +1,6 @@
 use Rattle.std.proofs.Common.{◌≡◌, ℕ, List, take}
 use Rattle.hc_order.specs.Log.{Move}
-use Rattle.hc_link_traits.specs.Keeping.{KeepsLinks, KeepsRecorder}
+use Rattle.hc_links.specs.Keeping.{KeepsLinks, KeepsRecorder}
 use Rattle.hc_drive.specs.Carrying.{AreDone}
 use Rattle.hc_drive.proofs.carrying.carry_out.Given as goal
 

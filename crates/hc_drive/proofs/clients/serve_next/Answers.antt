@@ -8,8 +8,8 @@ returns-in-Ok-serve_connection-clause-serves g c = λ text held.
     let told = nothing_passed g.A.Link.Link.has_given g.A.Link.Link.has_got g.A.Link.Link.was_read g.A.Link.Link.count g.O.Link.Link.has_given g.O.Link.Link.has_got (g.K.Clock.may_tell c.new-connection.result.clock.now)
     c.args.number c.in-Ok.client c.new-connection.result.opened c.new-connection.result.peers.client c.new-connection.result.peers.forwards.links
     c.in-Ok.ensures.fresh c.new-connection.ensures.tells c.new-connection.ensures.opened c.new-connection.ensures.kept in
-    serves_next g.A.Link.Link.has_given g.A.Link.Link.has_got g.A.Link.Link.was_read g.A.Link.Link.count g.O.Link.Link.has_given g.O.Link.Link.has_got (g.K.Clock.may_tell c.serve_connection.new.connection.clock.now) (g.K.Clock.may_tell c.args.clock.now)
-    (clock_still g.K.Clock.may_tell c.new-connection.result.clock.now c.args.clock.now c.new-connection.ensures.clock (g.K.Clock.may_tell c.serve_connection.new.connection.clock.now) c.serve_connection.ensures.moments)
+    serves_next g.A.Link.Link.has_given g.A.Link.Link.has_got g.A.Link.Link.was_read g.A.Link.Link.count g.O.Link.Link.has_given g.O.Link.Link.has_got (g.K.Clock.may_tell c.serve_connection.new.connection.clock.now) (g.K.Clock.may_tell c.args.surroundings.now.clock.now)
+    (clock_still g.K.Clock.may_tell c.new-connection.result.clock.now c.args.surroundings.now.clock.now c.new-connection.ensures.clock (g.K.Clock.may_tell c.serve_connection.new.connection.clock.now) c.serve_connection.ensures.moments)
     (g.A.Clients.came c.args.clients.now) (g.A.Clients.came c.next.new.self) (g.A.Clients.came c.done.new.self) (g.A.Clients.left c.args.clients.now) (g.A.Clients.left c.next.new.self) (g.A.Clients.left c.done.new.self)
     (g.R.Link.has_got c.serve_connection.new.recorder) c.args.core.now c.serve_connection.new.core c.args.number
     c.serve_connection.new.connection.peers.client c.serve_connection.new.connection.opened c.serve_connection.new.connection.peers.forwards.links text
@@ -23,8 +23,8 @@ returns-in-Err-Client-clause-serves g c = λ text held.
     let told = nothing_passed g.A.Link.Link.has_given g.A.Link.Link.has_got g.A.Link.Link.was_read g.A.Link.Link.count g.O.Link.Link.has_given g.O.Link.Link.has_got (g.K.Clock.may_tell c.new-connection.result.clock.now)
     c.args.number c.in-Ok.client c.new-connection.result.opened c.new-connection.result.peers.client c.new-connection.result.peers.forwards.links
     c.in-Ok.ensures.fresh c.new-connection.ensures.tells c.new-connection.ensures.opened c.new-connection.ensures.kept in
-    serves_next g.A.Link.Link.has_given g.A.Link.Link.has_got g.A.Link.Link.was_read g.A.Link.Link.count g.O.Link.Link.has_given g.O.Link.Link.has_got (g.K.Clock.may_tell c.serve_connection.new.connection.clock.now) (g.K.Clock.may_tell c.args.clock.now)
-    (clock_still g.K.Clock.may_tell c.new-connection.result.clock.now c.args.clock.now c.new-connection.ensures.clock (g.K.Clock.may_tell c.serve_connection.new.connection.clock.now) c.serve_connection.ensures.moments)
+    serves_next g.A.Link.Link.has_given g.A.Link.Link.has_got g.A.Link.Link.was_read g.A.Link.Link.count g.O.Link.Link.has_given g.O.Link.Link.has_got (g.K.Clock.may_tell c.serve_connection.new.connection.clock.now) (g.K.Clock.may_tell c.args.surroundings.now.clock.now)
+    (clock_still g.K.Clock.may_tell c.new-connection.result.clock.now c.args.surroundings.now.clock.now c.new-connection.ensures.clock (g.K.Clock.may_tell c.serve_connection.new.connection.clock.now) c.serve_connection.ensures.moments)
     (g.A.Clients.came c.args.clients.now) (g.A.Clients.came c.next.new.self) (g.A.Clients.came c.done-in-Err-Client.new.self) (g.A.Clients.left c.args.clients.now) (g.A.Clients.left c.next.new.self) (g.A.Clients.left c.done-in-Err-Client.new.self)
     (g.R.Link.has_got c.serve_connection.new.recorder) c.args.core.now c.serve_connection.new.core c.args.number
     c.serve_connection.new.connection.peers.client c.serve_connection.new.connection.opened c.serve_connection.new.connection.peers.forwards.links text
@@ -39,8 +39,8 @@ returns-in-Err-Recorder-clause-serves g c = λ text held.
     let told = nothing_passed g.A.Link.Link.has_given g.A.Link.Link.has_got g.A.Link.Link.was_read g.A.Link.Link.count g.O.Link.Link.has_given g.O.Link.Link.has_got (g.K.Clock.may_tell c.new-connection.result.clock.now)
     c.args.number c.in-Ok.client c.new-connection.result.opened c.new-connection.result.peers.client c.new-connection.result.peers.forwards.links
     c.in-Ok.ensures.fresh c.new-connection.ensures.tells c.new-connection.ensures.opened c.new-connection.ensures.kept in
-    breaks_next g.A.Link.Link.has_given g.A.Link.Link.has_got g.A.Link.Link.was_read g.A.Link.Link.count g.O.Link.Link.has_given g.O.Link.Link.has_got (g.K.Clock.may_tell c.serve_connection.new.connection.clock.now) (g.K.Clock.may_tell c.args.clock.now)
-    (clock_still g.K.Clock.may_tell c.new-connection.result.clock.now c.args.clock.now c.new-connection.ensures.clock (g.K.Clock.may_tell c.serve_connection.new.connection.clock.now) c.serve_connection.ensures.moments)
+    breaks_next g.A.Link.Link.has_given g.A.Link.Link.has_got g.A.Link.Link.was_read g.A.Link.Link.count g.O.Link.Link.has_given g.O.Link.Link.has_got (g.K.Clock.may_tell c.serve_connection.new.connection.clock.now) (g.K.Clock.may_tell c.args.surroundings.now.clock.now)
+    (clock_still g.K.Clock.may_tell c.new-connection.result.clock.now c.args.surroundings.now.clock.now c.new-connection.ensures.clock (g.K.Clock.may_tell c.serve_connection.new.connection.clock.now) c.serve_connection.ensures.moments)
     (g.A.Clients.came c.args.clients.now) (g.A.Clients.came c.next.new.self) (g.A.Clients.came c.next.new.self) (g.A.Clients.left c.args.clients.now) (g.A.Clients.left c.next.new.self) (g.A.Clients.left c.next.new.self)
     (g.R.Link.has_got c.serve_connection.new.recorder) c.args.core.now c.serve_connection.new.core c.args.number
     c.serve_connection.new.connection.peers.client c.serve_connection.new.connection.opened c.serve_connection.new.connection.peers.forwards.links text
@@ -53,8 +53,8 @@ returns-in-Err-Core-clause-serves g c = λ text held.
     let told = nothing_passed g.A.Link.Link.has_given g.A.Link.Link.has_got g.A.Link.Link.was_read g.A.Link.Link.count g.O.Link.Link.has_given g.O.Link.Link.has_got (g.K.Clock.may_tell c.new-connection.result.clock.now)
     c.args.number c.in-Ok.client c.new-connection.result.opened c.new-connection.result.peers.client c.new-connection.result.peers.forwards.links
     c.in-Ok.ensures.fresh c.new-connection.ensures.tells c.new-connection.ensures.opened c.new-connection.ensures.kept in
-    breaks_next g.A.Link.Link.has_given g.A.Link.Link.has_got g.A.Link.Link.was_read g.A.Link.Link.count g.O.Link.Link.has_given g.O.Link.Link.has_got (g.K.Clock.may_tell c.serve_connection.new.connection.clock.now) (g.K.Clock.may_tell c.args.clock.now)
-    (clock_still g.K.Clock.may_tell c.new-connection.result.clock.now c.args.clock.now c.new-connection.ensures.clock (g.K.Clock.may_tell c.serve_connection.new.connection.clock.now) c.serve_connection.ensures.moments)
+    breaks_next g.A.Link.Link.has_given g.A.Link.Link.has_got g.A.Link.Link.was_read g.A.Link.Link.count g.O.Link.Link.has_given g.O.Link.Link.has_got (g.K.Clock.may_tell c.serve_connection.new.connection.clock.now) (g.K.Clock.may_tell c.args.surroundings.now.clock.now)
+    (clock_still g.K.Clock.may_tell c.new-connection.result.clock.now c.args.surroundings.now.clock.now c.new-connection.ensures.clock (g.K.Clock.may_tell c.serve_connection.new.connection.clock.now) c.serve_connection.ensures.moments)
     (g.A.Clients.came c.args.clients.now) (g.A.Clients.came c.next.new.self) (g.A.Clients.came c.next.new.self) (g.A.Clients.left c.args.clients.now) (g.A.Clients.left c.next.new.self) (g.A.Clients.left c.next.new.self)
     (g.R.Link.has_got c.serve_connection.new.recorder) c.args.core.now c.serve_connection.new.core c.args.number
     c.serve_connection.new.connection.peers.client c.serve_connection.new.connection.opened c.serve_connection.new.connection.peers.forwards.links text

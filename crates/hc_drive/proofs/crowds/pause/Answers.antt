@@ -1,4 +1,4 @@
-use Rattle.hc_link_traits.proofs.KeepingLemmas.{limits_same, limits_stay}
+use Rattle.hc_links.proofs.KeepingLemmas.{limits_same, limits_stay}
 use Rattle.hc_drive.proofs.crowds.pause.Goals as goal
 
 pub returns-in_err-flush-clause-limits : goal.returns-in_err-flush-clause-limits

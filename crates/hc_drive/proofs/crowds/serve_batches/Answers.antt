@@ -2,7 +2,7 @@ use Rattle.std.proofs.Common.{◌≡◌, ◌∙◌, ◌++◌, ℕ, Err, Ok, ap, 
 use Rattle.std.proofs.lemmas.Result.{err_from_is_err_and}
 use Rattle.hc_service.specs.declared.fault.StepFault.TheVariants.{Failed}
 use Rattle.hc_order.specs.Passed.{passed}
-use Rattle.hc_link_traits.proofs.KeepingLemmas.{limits_same, limits_stay, recorder_same, recorder_stays}
+use Rattle.hc_links.proofs.KeepingLemmas.{limits_same, limits_stay, recorder_same, recorder_stays}
 use Rattle.hc_drive.specs.declared.fault.DriveFault.TheVariants.{Core}
 use Rattle.hc_drive.specs.Crowds.{stage, telling}
 use Rattle.hc_drive.specs.Drives.{texts_given}

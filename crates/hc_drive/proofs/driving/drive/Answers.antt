@@ -6,7 +6,7 @@ use Rattle.hc_order.specs.Passed.{passed}
 use Rattle.hc_drive.specs.Drives.{most_rounds, texts_given}
 use Rattle.hc_drive.specs.Rounds.{IsRound, MayBreak}
 use Rattle.hc_drive.specs.Rounds.Break.{BeforeEvent}
-use Rattle.hc_link_traits.proofs.KeepingLemmas.{links_same, links_stay, recorder_same, recorder_stays}
+use Rattle.hc_links.proofs.KeepingLemmas.{links_same, links_stay, recorder_same, recorder_stays}
 use Rattle.hc_drive.proofs.DriveLemmas.{begins, breaks, broke_off, ended, goes_on, late_all, made_all, never_late}
 use Rattle.hc_drive.proofs.driving.drive.Goals as goal
 

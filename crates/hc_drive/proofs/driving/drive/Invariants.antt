@@ -1,6 +1,6 @@
 use Rattle.std.proofs.Common.{◌≡◌, ℕ, List}
 use Rattle.hc_order.specs.Log.{Move}
-use Rattle.hc_link_traits.specs.Keeping.{KeepsLinks, KeepsRecorder}
+use Rattle.hc_links.specs.Keeping.{KeepsLinks, KeepsRecorder}
 use Rattle.hc_drive.proofs.DriveLemmas.{SoFar}
 use Rattle.hc_drive.proofs.driving.drive.Given as goal
 

@@ -1,6 +1,6 @@
 use Rattle.std.proofs.Common.{◌∷◌, ◌++◌, [], sym, subst, refl, append_assoc}
 use Rattle.std.proofs.lemmas.Result.{err_from_is_err_and}
-use Rattle.hc_link_traits.proofs.KeepingLemmas.{recorder_stays}
+use Rattle.hc_links.proofs.KeepingLemmas.{recorder_stays}
 use Rattle.hc_drive.proofs.CarryLemmas.{writes_last, writes_part}
 use Rattle.hc_drive.proofs.recorder.write_parts.Goals as goal
 

@@ -1,7 +1,7 @@
 use Rattle.std.proofs.Common.{◌∷◌, subst, sym}
 use Rattle.std.proofs.lemmas.Result.{err_from_is_err_and}
 use Rattle.hc_order.specs.Log.Move.{Heard}
-use Rattle.hc_link_traits.proofs.KeepingLemmas.{links_stay}
+use Rattle.hc_links.proofs.KeepingLemmas.{links_stay}
 use Rattle.hc_drive.specs.Carrying.{IsOfCarrying}
 use Rattle.hc_drive.specs.Rounds.Break.{AtAnswer, Carrying}
 use Rattle.hc_drive.proofs.rounds.round.Goals as goal

@@ -1,9 +1,5 @@
-use Rattle.std.proofs.Common.{rules}
-use Rattle.hc_head.specs.HostScan.{authority_of}
-use Rattle.hc_head.proofs.TargetLemmas.{absolute_target}
+use Rattle.hc_head.proofs.TargetLemmas.{finds_target}
 use Rattle.hc_head.proofs.targets.read_target.Goals as goal
 
-pub returns : goal.returns
-returns c =
-    absolute_target c.args.head.now _ (authority_of c.in-Some.host) (authority_of c.in-Some-2.form.authority) c.in-Some-2.form.rest.now
-    c.in-Some.ensures.found (search rules) (search rules) (search rules) (search rules)
+pub returns-clause-found : goal.returns-clause-found
+returns-clause-found c = finds_target c.args.head.now _ c.read_into.ensures

@@ -18,9 +18,12 @@ returns-then-is_not_modified c =
 
 pub returns-else-is_not_modified : goal.returns-else-is_not_modified
 returns-else-is_not_modified c =
-    subst (λ (b : Bool). IfOk c.has_its_lines-else-is_not_modified.result (λ has. has ≡ b))
+    subst (λ (b : Bool). IfOk c.has_lines_besides.result (λ has. has ≡ b))
     (fields_of_other c.args.claim.now c.args.state.now
     (ap (λ (lines : List Field). has_lines c.args.claim.now c.args.state.now lines) (sym c.fields.ensures) ∙ sym c.in_ok-has.ensures ∙ c.if-not-has.false)
     (sym c.is_not_modified.ensures ∙ c.if-is_not_modified.false))
-    (subst (λ (lines : List Field). IfOk c.has_its_lines-else-is_not_modified.result (λ has. has ≡ has_lines c.args.claim.now c.args.state.now lines))
-    c.lent.ensures c.has_its_lines-else-is_not_modified.ensures)
+    c.has_lines_besides.ensures
+
+pub has_lines_besides-requires : goal.has_lines_besides-requires
+has_lines_besides-requires c =
+    ap (λ (lines : List Field). has_lines c.args.claim.now c.args.state.now lines) (sym c.fields.ensures) ∙ sym c.in_ok-has.ensures ∙ c.if-not-has.false

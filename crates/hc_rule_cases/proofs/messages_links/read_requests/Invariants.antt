@@ -1,4 +1,4 @@
-use Rattle.hc_links.specs.RequestReading.{CanRead}
+use Rattle.hc_incoming.specs.RequestReading.{CanRead}
 use Rattle.hc_rule_cases.proofs.messages_links.read_requests.Given as goal
 
 -- the reader can read on

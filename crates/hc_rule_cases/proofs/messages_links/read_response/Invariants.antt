@@ -1,4 +1,4 @@
-use Rattle.hc_links.specs.ResponseReading.{CanRead}
+use Rattle.hc_incoming.specs.ResponseReading.{CanRead}
 use Rattle.hc_rule_cases.proofs.messages_links.read_response.Given as goal
 
 -- the reader can read on

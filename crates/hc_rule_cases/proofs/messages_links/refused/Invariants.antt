@@ -1,5 +1,5 @@
 use Rattle.std.proofs.Common.{length}
-use Rattle.hc_links.specs.RequestReading.{CanRead, unread}
+use Rattle.hc_incoming.specs.RequestReading.{CanRead, unread}
 use Rattle.hc_rule_cases.proofs.messages_links.refused.Given as goal
 
 -- the reader can read on

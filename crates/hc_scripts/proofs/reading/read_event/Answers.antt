@@ -1,5 +1,5 @@
 use Rattle.std.proofs.Common.{◌∙◌, ap, List, subst, sym, ℕ}
-use Rattle.hc_events.specs.declared.Event.{Event}
+use Rattle.hc_service.specs.declared.event.Event.{Event}
 use Rattle.hc_scripts.specs.ScriptParts.{BeginsEvent, event_with}
 use Rattle.hc_scripts.proofs.ScriptEventLemmas.{begins_bare}
 use Rattle.hc_scripts.proofs.reading.read_event.Goals as goal

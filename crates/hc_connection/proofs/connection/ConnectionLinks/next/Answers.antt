@@ -1,5 +1,5 @@
 use Rattle.std.proofs.Common.{◌≡◌, refl, rules}
-use Rattle.hc_events.specs.declared.Happening.TheVariants.{ClientOpened}
+use Rattle.hc_service.specs.declared.event.Happening.TheVariants.{ClientOpened}
 use Rattle.std.proofs.lemmas.Result.{err_from_is_err_and}
 use Rattle.hc_connection.specs.Forwards.{AreKept}
 use Rattle.hc_connection.specs.Sides.{Tells}

@@ -1,5 +1,5 @@
 use Rattle.std.proofs.Common.{arith, refl}
-use Rattle.hc_events.specs.declared.Happening.TheVariants.{OriginFailed}
+use Rattle.hc_service.specs.declared.event.Happening.TheVariants.{OriginFailed}
 use Rattle.hc_order.specs.declared.occurrence.Reason.TheVariants.{Reads}
 use Rattle.hc_connection.proofs.TellLemmas.{on_forward}
 use Rattle.hc_connection.proofs.peers.Peers.hear_origin.Goals as goal

@@ -1,5 +1,5 @@
 use Rattle.std.proofs.Common.{arith, refl}
-use Rattle.hc_events.specs.declared.Happening.TheVariants.{OriginFailed}
+use Rattle.hc_service.specs.declared.event.Happening.TheVariants.{OriginFailed}
 use Rattle.hc_order.specs.declared.occurrence.Reason.TheVariants.{Peer}
 use Rattle.hc_connection.proofs.TellLemmas.{no_reads, on_forward, still_read}
 use Rattle.hc_connection.proofs.peers.Peers.lost.Goals as goal

@@ -5,7 +5,7 @@ use Rattle.hc_peers.specs.Peers.{ArePeers}
 use Rattle.hc_crowd.specs.Crowds.{MayTell, bounds_of}
 use Rattle.hc_crowd.proofs.CrowdLemmas.{heard_now, told_now}
 use Rattle.hc_crowd.specs.declared.limits.Limits.{Limits}
-use Rattle.hc_events.specs.declared.Happening.{Happening}
+use Rattle.hc_service.specs.declared.event.Happening.{Happening}
 use Rattle.hc_order.specs.Mirrors.{MayHappen}
 use Rattle.hc_crowd.proofs.crowd.CrowdLinks.next.Goals as goal
 

@@ -1,7 +1,7 @@
 use Rattle.std.proofs.Common.{Err, Ok, Option, Result, subst, sym}
 use Rattle.std.proofs.lemmas.Result.{err_from_is_err_and}
 use Rattle.std.specs.declared.alloc.AllocError.{AllocError}
-use Rattle.hc_link_traits.specs.declared.happened.Happened.{Happened}
+use Rattle.hc_links.specs.declared.happened.Happened.{Happened}
 use Rattle.hc_peers.specs.Keeping.{Hears}
 use Rattle.hc_peers.specs.Known.{is_cut_at}
 use Rattle.hc_crowd.specs.Courses.{EndsUnawaited, EndsUnbegun, FailsAt, is_late}

@@ -1,5 +1,5 @@
 use Rattle.std.proofs.Common.{refl, arith}
-use Rattle.hc_framing.specs.declared.framing_reader.Stage.TheVariants as at
+use Rattle.hc_framing.specs.declared.framing_reader.FramingStage.TheVariants as at
 use Rattle.hc_framing.proofs.BodyLemmas.{at_stage, carriage_return_breaks, framing_taken, line_feed_awaited}
 use Rattle.hc_framing.proofs.framing_reader.FramingReader.take_carriage_return.Goals as goal
 

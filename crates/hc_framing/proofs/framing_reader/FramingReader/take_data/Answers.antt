@@ -1,5 +1,5 @@
 use Rattle.std.proofs.Common.{refl, arith, length, ◌++◌, take}
-use Rattle.hc_framing.specs.declared.framing_reader.Stage.TheVariants as at
+use Rattle.hc_framing.specs.declared.framing_reader.FramingStage.TheVariants as at
 use Rattle.hc_framing.proofs.BodyLemmas.{at_stage, in_stage, data_taken, takes_some}
 use Rattle.hc_framing.proofs.framing_reader.FramingReader.take_data.Goals as goal
 

@@ -2,8 +2,8 @@ use Rattle.std.proofs.Common.{ℕ, ◌+◌, ◌++◌, length, take, refl, arith,
 use Rattle.hc_framing.specs.declared.fault.FrameFault.{FrameFault}
 use Rattle.hc_framing.specs.declared.framing.Framing.{Framing}
 use Rattle.hc_framing.specs.Names.{of_chunk}
-use Rattle.hc_framing.specs.declared.framing_reader.Stage.TheVariants as at
-use Rattle.hc_chunks.specs.ChunkLines.{BeginsChunkLine}
+use Rattle.hc_framing.specs.declared.framing_reader.FramingStage.TheVariants as at
+use Rattle.hc_framing.specs.ChunkLines.{BeginsChunkLine}
 use Rattle.hc_framing.specs.Bodies.{SaysTooLong}
 use Rattle.hc_framing.specs.BodyReading.{AgreesFraming, FaultsBody}
 use Rattle.hc_framing.proofs.BodyLemmas.{at_stage, in_stage, framing_taken, line_breaks, says_too_long, line_goes_on, line_takes_some, data_begins, trailer_begins, whole_piece}

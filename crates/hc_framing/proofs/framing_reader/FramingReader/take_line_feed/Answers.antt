@@ -1,5 +1,5 @@
 use Rattle.std.proofs.Common.{refl, arith}
-use Rattle.hc_framing.specs.declared.framing_reader.Stage.TheVariants as at
+use Rattle.hc_framing.specs.declared.framing_reader.FramingStage.TheVariants as at
 use Rattle.hc_framing.proofs.BodyLemmas.{at_stage, line_feed_breaks, framing_taken, next_line}
 use Rattle.hc_framing.proofs.framing_reader.FramingReader.take_line_feed.Goals as goal
 

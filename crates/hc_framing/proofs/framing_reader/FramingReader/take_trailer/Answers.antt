@@ -1,5 +1,5 @@
 use Rattle.std.proofs.Common.{◌+◌, subst, sym, arith, ◌++◌, take, length, drop, append-nil, List, ℕ}
-use Rattle.hc_framing.specs.declared.framing_reader.Stage.TheVariants as at
+use Rattle.hc_framing.specs.declared.framing_reader.FramingStage.TheVariants as at
 use Rattle.hc_framing.specs.declared.framing.Framing.{Framing}
 use Rattle.hc_framing.specs.Messages.{BeginsBody}
 use Rattle.hc_framing.specs.declared.fault.FrameFault.{FrameFault}

@@ -1,11 +1,11 @@
 use Rattle.std.proofs.Common.{◌≡◌, List, ℕ, rules, sym, ◌∙◌, subst, inl, inr}
 use Rattle.hc_head.specs.Reading.{IsWholeHead}
-use Rattle.hc_framing.specs.declared.reader.Stage.{Stage}
-use Rattle.hc_framing.specs.declared.reader.Stage.TheVariants as at
+use Rattle.hc_framing.specs.declared.reader.MessageStage.{MessageStage}
+use Rattle.hc_framing.specs.declared.reader.MessageStage.TheVariants as at
 use Rattle.hc_framing.proofs.ReaderLemmas.{none_at_end, cut_in_body}
 use Rattle.hc_framing.proofs.reader.MessageReader.closed.Goals as goal
 
-failed_or_not : (stage : Stage) → stage ≡ at.Head → stage ≡ at.Failed → ⊥
+failed_or_not : (stage : MessageStage) → stage ≡ at.Head → stage ≡ at.Failed → ⊥
 failed_or_not stage head failed = search (rules, sym head ∙ failed)
 
 pub unreachable-requires : goal.unreachable-requires

@@ -1,10 +1,10 @@
 use Rattle.std.proofs.Common.{◌≡◌, rules, refl, sym, ◌∙◌, inl, inr}
-use Rattle.hc_framing.specs.declared.reader.Stage.{Stage}
-use Rattle.hc_framing.specs.declared.reader.Stage.TheVariants as at
+use Rattle.hc_framing.specs.declared.reader.MessageStage.{MessageStage}
+use Rattle.hc_framing.specs.declared.reader.MessageStage.TheVariants as at
 use Rattle.hc_framing.proofs.ReaderLemmas.{closes}
 use Rattle.hc_framing.proofs.reader.MessageReader.end.Goals as goal
 
-failed_or_not : (stage : Stage) → stage ≡ at.Body → stage ≡ at.Failed → ⊥
+failed_or_not : (stage : MessageStage) → stage ≡ at.Body → stage ≡ at.Failed → ⊥
 failed_or_not stage body failed = search (rules, sym body ∙ failed)
 
 pub returns-in-Ok-clause-gives : goal.returns-in-Ok-clause-gives

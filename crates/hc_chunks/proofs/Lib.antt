@@ -1,3 +1,0 @@
-pub mod ListLemmas
-pub mod ChunkLineLemmas
-pub mod TrailerLemmas

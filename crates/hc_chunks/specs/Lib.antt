@@ -1,4 +1,0 @@
-pub mod ChunkLines
-pub mod ChunkLineReading
-pub mod Trailers
-pub mod TrailerReading

@@ -1,0 +1,22 @@
+use Rattle.std.proofs.Common.{subst}
+use Rattle.hc_head.specs.declared.head.RequestHead.{RequestHead}
+use Rattle.hc_framing.specs.declared.message.Message.{Message}
+use Rattle.hc_service.specs.declared.open.ForwardKind.TheVariants.{Plain}
+use Rattle.hc_service.specs.declared.open.Purpose.TheVariants as purpose
+use Rattle.hc_core.specs.Ending.{AsksFor}
+use Rattle.hc_core.specs.Standing.{at_desk}
+use Rattle.hc_core.proofs.SendLemmas.{anew_is, on_ok_by}
+use Rattle.std.proofs.Common.{refl}
+use Rattle.hc_core.proofs.desk.Desk.go_anew.Goals as goal
+
+pub returns : goal.returns
+returns g c =
+    let d = c.args.self.now in
+    let w = c.args.held in
+    on_ok_by c.send_for.result _ _
+    (λ sends. record {
+      asks = subst (λ (r : Message RequestHead). AsksFor {S = g.row.S.Denot} {H = g.row.S-Hasher.Denot} w w.exchange r (purpose.Reply w.number c.args.cause Plain) (at_desk c.args.actions.now.items d) (at_desk c.send_for.new.actions.items c.send_for.new.self))
+          (anew_is _ d.name w.exchange.target w.exchange.target w.exchange.request c.in_ok-request.request c.in_ok-request.ensures c.as_slice-name.ensures refl) sends.asks;
+      store = sends.store;
+    })
+    c.send_for.ensures

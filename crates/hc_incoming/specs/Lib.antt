@@ -1,0 +1,12 @@
+pub mod Requests
+pub mod Responses
+pub mod Troubles
+pub mod Refusals
+pub mod Failures
+pub mod HeadParts
+pub mod Arrivals
+pub mod Counts
+pub mod RequestReading
+pub mod RequestParts
+pub mod ResponseReading
+pub mod ResponseParts

@@ -1,4 +1,0 @@
-pub mod BufferLemmas
-pub mod KeepingLemmas
-pub mod ReadLemmas
-pub mod WritingLemmas
