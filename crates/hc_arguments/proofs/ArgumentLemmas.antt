@@ -51,8 +51,8 @@ use Rattle.hc_arguments.specs.Tables.{Command, abandoned, caching, command_named
 use Rattle.hc_arguments.specs.Tables.{origin_connections, origin_timeout, origin_total, proxying, queue_timeout, reporting, request_timeout, send_timeout, serving, taken_by}
 use Rattle.hc_arguments.specs.Tables.{explaining_form}
 use Rattle.hc_arguments.specs.Tables.Command.{Audits, Reports, Explains, Shows, Replays, Converts, Splits, Joins, Serves, Proxies}
-use Rattle.hc_arguments.specs.Tasks.{Asks, AsksBy, AsksIn, AsksProxy, AsksService, CanBeDone, IsRefused, RefusesBy, RefusesIn, Task, ValuesAsk}
-use Rattle.hc_arguments.specs.Tasks.{command_in, command_of, explaining, plain_form, proxy_words, service_words, task_of}
+use Rattle.hc_arguments.specs.Tasks.{Asks, AsksBy, AsksIn, AsksProxy, AsksService, CanBeDone, IsRefused, ProxyTask, RefusesBy, RefusesIn, Task, ValuesAsk}
+use Rattle.hc_arguments.specs.Tasks.{command_in, command_of, explaining, plain_form, plain_proxy_task, proxy_words, service_words, task_of}
 use Rattle.hc_arguments.specs.Tasks.Task.{ToAudit, ToReport, ToExplain, ToShow, ToReplay, ToConvert, ToSplit, ToJoin, ToServe, ToProxy}
 
 -- the command is one of which a parse is known exactly
@@ -159,7 +159,18 @@ task_from Joins value = option_map (λ p. ToJoin p.0 p.1) (both (value (codes "D
 task_from Serves value = option_map (λ p. ToServe p.0.0 p.0.1 p.1.0.0 p.1.0.1 p.1.1)
     (both (both (value (codes "listen")) (value (codes "origin")))
     (both (both (option_and_then (λ o. o) (number_by (Number 1 greatest_number) (value (codes "connections")))) (value (codes "record"))) (cache_from keys_served value)))
-task_from Proxies value = option_map (λ p. ToProxy p.0.0 p.0.1 (value (codes "record")) (value (codes "access-log")) (value (codes "status")) p.1.0 p.1.1.0 (flag_by (value (codes "store-set-cookie"))) p.1.1.1)
+task_from Proxies value =
+    option_map (λ p. ToProxy (record {
+      listen = p.0.0;
+      origin = p.0.1;
+      file = value (codes "record");
+      log = value (codes "access-log");
+      status = value (codes "status");
+      terms = p.1.0;
+      limits = p.1.1.0;
+      keeps_cookies = flag_by (value (codes "store-set-cookie"));
+      settings = p.1.1.1;
+    }))
     (both (both (value (codes "listen")) (value (codes "origin"))) (both (terms_from value) (both (limits_from value) (cache_from keys_proxied value))))
 
 abbrev task_by : Option Command → (Text → Option Text) → Option Task
@@ -252,11 +263,21 @@ values_give value (ToServe listen origin connections file settings) a =
     let set = cache_given keys_served value settings a.settings_are in
     λ i. option_map (λ p. ToServe p.0.0 p.0.1 p.1.0.0 p.1.0.1 p.1.1)
     (both (both (a.listen_is i) (a.origin_is i)) (both (both (option_and_then (λ o. o) (a.connections_is i)) (a.file_is i)) (set i)))
-values_give value (ToProxy listen origin file log status terms limits keeps_cookies settings) a =
-    let set = cache_given keys_proxied value settings a.settings_are in
-    let limited = limits_given value limits a.limits_are in
-    let recorded = terms_given value terms a.terms_are in
-    λ i. option_map (λ p. ToProxy p.0.0 p.0.1 (a.file_is i) (a.log_is i) (a.status_is i) p.1.0 p.1.1.0 (a.cookies_are i) p.1.1.1)
+values_give value (ToProxy asked) a =
+    let set = cache_given keys_proxied value asked.settings a.settings_are in
+    let limited = limits_given value asked.limits a.limits_are in
+    let recorded = terms_given value asked.terms a.terms_are in
+    λ i. option_map (λ p. ToProxy (record {
+      listen = p.0.0;
+      origin = p.0.1;
+      file = a.file_is i;
+      log = a.log_is i;
+      status = a.status_is i;
+      terms = p.1.0;
+      limits = p.1.1.0;
+      keeps_cookies = a.cookies_are i;
+      settings = p.1.1.1;
+    }))
     (both (both (a.listen_is i) (a.origin_is i)) (both (recorded i) (both (limited i) (set i))))
 
 task_given : (command : Option Command) (value : Text → Option Text) (task : Task) → AsksBy command value task → task_by command value ≡ Some task
@@ -349,20 +370,20 @@ serving_fine value listen origin n file settings a = (
   ),
 )
 
-proxying_fine : (value : Text → Option Text) (listen origin : Text) (file log status : Option Text) (terms : RecordTerms) (limits : ProxyLimits) (keeps_cookies : Bool) (settings : CoreSettings)
-    → AsksProxy value listen origin file log status terms limits keeps_cookies settings → AreFine taken_by value proxying
-proxying_fine value listen origin file log status terms limits keeps_cookies settings a =
+proxying_fine : (value : Text → Option Text) (asked : ProxyTask) → AsksProxy value asked → AreFine taken_by value proxying
+proxying_fine value asked a =
+    let limits = asked.limits in
     let l = a.limits_are in
     let p = a.limits_are.patience_is in
     let within = λ (least most usual : ℕ). λ (name : Text). λ (n : ℕ). λ (is : number_or (Number least most) usual (value name) ≡ Some n).
     numbered least most usual n (value name) is in (
-      there taken_by taken_by_judges (value (codes "listen")) listen a.listen_is,
+      there taken_by taken_by_judges (value (codes "listen")) asked.listen a.listen_is,
       (
-        originated origin (value (codes "origin")) a.origin_is a.origin_is_one,
+        originated asked.origin (value (codes "origin")) a.origin_is a.origin_is_one,
         (
           any_fine taken_by taken_by_judges (value (codes "record")),
           (
-            sized_if_given 0 terms.limit (value (codes "record-limit")) a.terms_are.limit_is,
+            sized_if_given 0 asked.terms.limit (value (codes "record-limit")) a.terms_are.limit_is,
             (
               any_fine taken_by taken_by_judges (value (codes "record-strict")),
               (
@@ -439,8 +460,8 @@ values_fine value (ToSplit file parts dir) a = (
 values_fine value (ToJoin dir least) a = (there taken_by taken_by_judges (value (codes "DIR")) dir a.dir_is, minimums_fine taken_by taken_by_judges value least a.minimums_are)
 values_fine value (ToServe listen origin connections file settings) a =
     appended taken_by value serving caching (serving_fine value listen origin connections file settings a) (cache_fine keys_served value settings a.settings_are)
-values_fine value (ToProxy listen origin file log status terms limits keeps_cookies settings) a =
-    appended taken_by value proxying caching (proxying_fine value listen origin file log status terms limits keeps_cookies settings a) (cache_fine keys_proxied value settings a.settings_are)
+values_fine value (ToProxy asked) a =
+    appended taken_by value proxying caching (proxying_fine value asked a) (cache_fine keys_proxied value asked.settings a.settings_are)
 
 -- and what is asked isn't refused
 none_outside : (command : Option Command) (value : Text → Option Text) (task : Task) (e : Error) (refusal : Refusal) → command ≡ Some (command_of task)
@@ -540,7 +561,7 @@ possible_from command value (ToConvert file) asks = tt
 possible_from command value (ToSplit file parts dir) asks = some_parts (value (codes "N")) parts asks.1.parts_are
 possible_from command value (ToJoin dir least) asks = tt
 possible_from command value (ToServe listen origin connections file settings) asks = good_cache keys_served value settings refl asks.1.settings_are
-possible_from command value (ToProxy listen origin file log status asked limits keeps_cookies settings) asks = good_cache keys_proxied value settings refl asks.1.settings_are
+possible_from command value (ToProxy asked) asks = good_cache keys_proxied value asked.settings refl asks.1.settings_are
 
 -- words that ask something are refused for want of memory alone
 pub asked_from : (words : List Text) (task : Task) (e : Error) → fault_of hcache words ≡ [] → Asks words task → IsRefused words e → kind_of e ≡ OutOfMemory
@@ -1030,7 +1051,7 @@ module _ (name listen origin : Text) where
   no_proxy_fault = refl
 
 pub words_of_proxy : (name listen origin : Text) → is_origin origin ≡ true
-    → AreWordsFor (name ∷ proxy_words listen origin) (ToProxy listen origin None None None plain_terms plain_limits false (plain_cache keys_proxied))
+    → AreWordsFor (name ∷ proxy_words listen origin) (ToProxy (plain_proxy_task listen origin))
 words_of_proxy name listen origin one = record {
   asks = (
     is_proxy name listen origin,

@@ -26,9 +26,9 @@ use Rattle.hc_arguments.specs.declared.order.Order.TheVariants.{Audit, Report, E
 use Rattle.hc_arguments.specs.declared.order.ProxyLimits.{ProxyLimits}
 use Rattle.hc_arguments.specs.declared.order.RecordTerms.{RecordTerms}
 use Rattle.hc_arguments.specs.declared.order.ReportTerms.{ReportTerms}
-use Rattle.hc_arguments.specs.Cache.{AsksCache, keys_proxied, keys_served}
+use Rattle.hc_arguments.specs.Cache.{AsksCache, keys_proxied, keys_served, plain_cache}
 use Rattle.hc_arguments.specs.Commands.{hcache}
-use Rattle.hc_arguments.specs.Limits.{AsksLimits, AsksTerms}
+use Rattle.hc_arguments.specs.Limits.{AsksLimits, AsksTerms, plain_limits, plain_terms}
 use Rattle.hc_arguments.specs.Origins.{is_origin}
 use Rattle.hc_arguments.specs.Positions.{span_of}
 use Rattle.hc_arguments.specs.Tables.{Command, command_named, entries_of, taken_by}
@@ -59,6 +59,19 @@ form_of form = record {
 abbrev pub plain_form : Form
 plain_form = record { json = false; baseline = None; strict = false; annotates = false; junit = None; html = false }
 
+-- what `proxy` is asked for: where it listens, and before which origin; to which file it records, if any; to which it logs replies, and where it tells of itself;
+-- on which terms it records, within which limits, whether responses that set a cookie are stored, and by which settings of its cache
+pub record ProxyTask : Type 0 where
+  pub listen : Text
+  pub origin : Text
+  pub file : Option Text
+  pub log : Option Text
+  pub status : Option Text
+  pub terms : RecordTerms
+  pub limits : ProxyLimits
+  pub keeps_cookies : Bool
+  pub settings : CoreSettings
+
 -- what the commands can be asked
 pub data Task : Type 0 where
   -- to audit that file on those terms
@@ -79,9 +92,22 @@ pub data Task : Type 0 where
   ToJoin : (dir : Text) (least : Minimums) → Task
   -- to serve so many connections there, before that origin, to record them to that file, from a cache of those settings
   ToServe : (listen origin : Text) (connections : ℕ) (file : Text) (settings : CoreSettings) → Task
-  -- to serve all that connect there at once, before that origin, to record them to that file, if any, on those terms, to log replies to that one, if any, to tell
-  -- of itself there, if anywhere, within those limits, from a cache of those settings, which stores responses that set a cookie, or doesn't
-  ToProxy : (listen origin : Text) (file log status : Option Text) (terms : RecordTerms) (limits : ProxyLimits) (keeps_cookies : Bool) (settings : CoreSettings) → Task
+  -- to serve all that connect at once, as is asked
+  ToProxy : (asked : ProxyTask) → Task
+
+-- the plain one: nothing is recorded, logged or told, and all else is as it is where no option is given
+abbrev pub plain_proxy_task : Text → Text → ProxyTask
+plain_proxy_task listen origin = record {
+  listen = listen;
+  origin = origin;
+  file = None;
+  log = None;
+  status = None;
+  terms = plain_terms;
+  limits = plain_limits;
+  keeps_cookies = false;
+  settings = plain_cache keys_proxied;
+}
 
 abbrev pub command_of : Task → Command
 command_of (ToAudit file terms) = Audits
@@ -93,7 +119,7 @@ command_of (ToConvert file) = Converts
 command_of (ToSplit file parts dir) = Splits
 command_of (ToJoin dir least) = Joins
 command_of (ToServe listen origin connections file settings) = Serves
-command_of (ToProxy listen origin file log status terms limits keeps_cookies settings) = Proxies
+command_of (ToProxy asked) = Proxies
 
 -- the first of some texts, of which there is one
 abbrev pub first_text : List (Bor Text) → Text
@@ -114,7 +140,17 @@ task_of (Convert file) = ToConvert file.now
 task_of (Split file parts dir) = ToSplit file.now parts dir.now
 task_of (Join dir least) = ToJoin dir.now least
 task_of (Serve s) = ToServe s.listen.now s.origin.now s.connections s.file.now s.settings
-task_of (Proxy p) = ToProxy (first_text p.listens.items) p.origin.now (option_map (λ file. file.now) p.file) (option_map (λ file. file.now) p.log) (option_map (λ place. place.now) p.status) p.terms p.limits p.keeps_cookies p.settings
+task_of (Proxy p) = ToProxy (record {
+  listen = first_text p.listens.items;
+  origin = p.origin.now;
+  file = option_map (λ file. file.now) p.file;
+  log = option_map (λ file. file.now) p.log;
+  status = option_map (λ place. place.now) p.status;
+  terms = p.terms;
+  limits = p.limits;
+  keeps_cookies = p.keeps_cookies;
+  settings = p.settings;
+})
 
 -- a proxy listens at all of these places, in this order
 abbrev pub ListensAt : Option (List Text) → Order → Type 0
@@ -175,17 +211,17 @@ pub record AsksService (value : Text → Option Text) (listen origin : Text) (co
   pub settings_are : AsksCache keys_served value settings
 
 -- and that of `proxy`
-pub record AsksProxy (value : Text → Option Text) (listen origin : Text) (file log status : Option Text) (terms : RecordTerms) (limits : ProxyLimits) (keeps_cookies : Bool) (settings : CoreSettings) : Type 0 where
-  pub listen_is : value (codes "listen") ≡ Some listen
-  pub origin_is : value (codes "origin") ≡ Some origin
-  pub origin_is_one : is_origin origin ≡ true
-  pub file_is : value (codes "record") ≡ file
-  pub log_is : value (codes "access-log") ≡ log
-  pub status_is : value (codes "status") ≡ status
-  pub terms_are : AsksTerms value terms
-  pub limits_are : AsksLimits value limits
-  pub cookies_are : flag_by (value (codes "store-set-cookie")) ≡ keeps_cookies
-  pub settings_are : AsksCache keys_proxied value settings
+pub record AsksProxy (value : Text → Option Text) (asked : ProxyTask) : Type 0 where
+  pub listen_is : value (codes "listen") ≡ Some asked.listen
+  pub origin_is : value (codes "origin") ≡ Some asked.origin
+  pub origin_is_one : is_origin asked.origin ≡ true
+  pub file_is : value (codes "record") ≡ asked.file
+  pub log_is : value (codes "access-log") ≡ asked.log
+  pub status_is : value (codes "status") ≡ asked.status
+  pub terms_are : AsksTerms value asked.terms
+  pub limits_are : AsksLimits value asked.limits
+  pub cookies_are : flag_by (value (codes "store-set-cookie")) ≡ asked.keeps_cookies
+  pub settings_are : AsksCache keys_proxied value asked.settings
 
 abbrev pub ValuesAsk : (Text → Option Text) → Task → Type 0
 ValuesAsk value (ToAudit file terms) = AsksAudit value file terms
@@ -197,7 +233,7 @@ ValuesAsk value (ToConvert file) = value (codes "FILE") ≡ Some file
 ValuesAsk value (ToSplit file parts dir) = AsksSplit value file parts dir
 ValuesAsk value (ToJoin dir least) = AsksJoin value dir least
 ValuesAsk value (ToServe listen origin connections file settings) = AsksService value listen origin connections file settings
-ValuesAsk value (ToProxy listen origin file log status terms limits keeps_cookies settings) = AsksProxy value listen origin file log status terms limits keeps_cookies settings
+ValuesAsk value (ToProxy asked) = AsksProxy value asked
 
 -- the command and its values ask that
 abbrev pub AsksBy : Option Command → (Text → Option Text) → Task → Type 0
@@ -220,7 +256,7 @@ abbrev pub CanBeDone : Task → Type 0
 CanBeDone (ToShow file span) = 0 < span.last
 CanBeDone (ToSplit file parts dir) = 0 < parts
 CanBeDone (ToServe listen origin connections file settings) = AreGood settings
-CanBeDone (ToProxy listen origin file log status terms limits keeps_cookies settings) = AreGood settings
+CanBeDone (ToProxy asked) = AreGood asked.settings
 CanBeDone task = ⊤
 
 -- ---- plain words

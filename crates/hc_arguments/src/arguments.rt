@@ -1,6 +1,6 @@
 //! What the words of a command line ask.
 
-ghost use Rattle.std.specs.Prelude.{◌≡◌, ◌∷◌, [], IfErr, IfOk, MatchResult, ℕ, Some, None, codes, false, map, true};
+ghost use Rattle.std.specs.Prelude.{◌≡◌, ◌∷◌, [], IfErr, IfOk, MatchResult, ℕ, Some, None, codes, map, true};
 ghost use Rattle.clap.specs.Words.{HasKind, Text, fault_of, first_value, found_of, kind_of, subcommand_of, subcommand_rows_of};
 ghost use Rattle.hc_options.specs.Auditing.{plain_audit};
 ghost use Rattle.hc_options.specs.Commands.{IsFileName, IsWord};
@@ -10,14 +10,14 @@ ghost use Rattle.hc_options.specs.Values.{number_by};
 ghost use Rattle.hc_options.specs.declared.refusal.Refusal.TheVariants.{Missing};
 ghost use Rattle.hc_options.specs.declared.rows.Takes.TheVariants.{Number};
 ghost use Rattle.hc_transcript.specs.Limits.{greatest_number};
-ghost use Rattle.hc_arguments.specs.Cache.{keys_proxied, keys_served, plain_cache};
+ghost use Rattle.hc_arguments.specs.Cache.{keys_served, plain_cache};
 ghost use Rattle.hc_arguments.specs.Commands.{hcache};
-ghost use Rattle.hc_arguments.specs.Limits.{TakesNumbers, AsksLimits, AsksPatience, AsksTerms, limit_in, plain_limits, plain_terms};
+ghost use Rattle.hc_arguments.specs.Limits.{TakesNumbers, AsksLimits, AsksPatience, AsksTerms, limit_in};
 ghost use Rattle.hc_arguments.specs.Origins.{is_origin};
 ghost use Rattle.hc_arguments.specs.Positions.{positive_of};
 ghost use Rattle.hc_arguments.specs.Tables.{Command, proxying, taken_by};
 ghost use Rattle.hc_arguments.specs.Tables.Command.{Audits, Converts, Explains, Joins, Proxies, Replays, Reports, Serves, Shows, Splits};
-ghost use Rattle.hc_arguments.specs.Tasks.{Asks, AsksBy, AsksIn, AreAll, CanBeDone, IsRefused, IsRefusedIn, ListensAt, RefusesBy, RefusesIn, all_values, explaining, first_text, plain_form, proxy_words, service_words, task_of, values_in};
+ghost use Rattle.hc_arguments.specs.Tasks.{Asks, AsksBy, AsksIn, AreAll, CanBeDone, IsRefused, IsRefusedIn, ListensAt, RefusesBy, RefusesIn, all_values, explaining, first_text, plain_form, plain_proxy_task, proxy_words, service_words, task_of, values_in};
 ghost use Rattle.hc_arguments.specs.Tasks.Task.{ToAudit, ToConvert, ToExplain, ToProxy, ToReplay, ToReport, ToServe};
 
 use crate::cache::cache_in;
@@ -91,7 +91,7 @@ pub fn parsed<'a, S: AsStr>(alloc: Global, words: &'a [S]) -> Result<Order<'a>, 
         (λ error. kind_of error ≡ ErrorKind.OutOfMemory) }
     // And `proxy` those of the two that it needs, no file, and the plain terms, limits and cache.
     ensures proxy { (name listen origin : Text) → is_origin origin ≡ true → map S.text words.entry.now ≡ name ∷ proxy_words listen origin
-        → MatchResult result (λ order. task_of order ≡ ToProxy listen origin None None None plain_terms plain_limits false (plain_cache keys_proxied))
+        → MatchResult result (λ order. task_of order ≡ ToProxy (plain_proxy_task listen origin))
         (λ error. kind_of error ≡ ErrorKind.OutOfMemory) }
 
     // Other words give what they say, where the command line has no fault and the values are in their ranges.

@@ -1,4 +1,3 @@
-pub mod Names
 pub mod Standing
 pub mod Endings
 pub mod Told

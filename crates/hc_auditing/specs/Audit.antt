@@ -8,6 +8,7 @@ use Rattle.hc_history.specs.Seen.{Seen}
 use Rattle.hc_audit.specs.declared.auditor.Auditor.{Auditor}
 use Rattle.hc_audit.specs.Agreement.{Agrees}
 use Rattle.hc_audit.specs.Standing.{Stands}
+use Rattle.hc_options.specs.declared.auditing.AuditTerms.{AuditTerms}
 use Rattle.hc_options.specs.declared.auditing.Minimums.{Minimums}
 use Rattle.hc_auditing.specs.Line.{IsVerdictLine, status_of}
 use Rattle.hc_auditing.specs.Minimums.{EndsBy}
@@ -44,9 +45,9 @@ pub record SaysVerdict (settings : Settings) (verdict : Verdict) (input left old
   pub says : SaysLine verdict (status_of verdict) old new
 
 -- an audit on those terms says a verdict on the output, and ends by it; where there is none, the status is 3
-abbrev pub AnswersFor : Settings → Minimums → Option (List ℕ) → Option (List ℕ) → ℕ → Option (List ℕ) → Option (List ℕ) → Option (List ℕ) → Option (List ℕ) → Type 0
-AnswersFor settings least input left status old new faults_old faults_new =
-    (status ≡ 3) ⊎ ((verdict : Verdict) × SaysVerdict settings verdict input left old new × EndsBy least verdict status faults_old faults_new)
+abbrev pub AnswersFor : AuditTerms → Option (List ℕ) → Option (List ℕ) → ℕ → Option (List ℕ) → Option (List ℕ) → Option (List ℕ) → Option (List ℕ) → Type 0
+AnswersFor terms input left status old new faults_old faults_new =
+    (status ≡ 3) ⊎ ((verdict : Verdict) × SaysVerdict terms.settings verdict input left old new × EndsBy terms.minimums verdict status faults_old faults_new)
 
 -- the same of an input that isn't known
 abbrev pub Answers : Minimums → ℕ → Option (List ℕ) → Option (List ℕ) → Option (List ℕ) → Option (List ℕ) → Type 0

@@ -39,7 +39,7 @@ pub fn audit<R: Read, W: Write, E: Write>(
 ) -> u8
     // A verdict is that of all octets that the reader had, where they are known, also where some of them
     // are left.
-    ensures answers { AnswersFor terms.settings terms.minimums (R.remaining input.old) (R.remaining input.new) result
+    ensures answers { AnswersFor terms (R.remaining input.old) (R.remaining input.new) result
         (W.contents output.old) (W.contents output.new) (E.contents faults.old) (E.contents faults.new) }
 
     // Nothing is written on the output before the input's end, or before a verdict stands.

@@ -104,7 +104,7 @@ fn ask_one<S: BuildHasher>(
 ) -> Result<(), Trouble>
     ensures { OnOk result (behind_question presented.now (Some store.old) target.now ≡ Some store.new) }
 {
-    match store.choose(target, presented)? {
+    match store.choose(target, presented)?.chosen {
         Some(_) => Ok(()),
         None => Err(Trouble::NotStored),
     }

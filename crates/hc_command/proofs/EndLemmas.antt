@@ -8,7 +8,7 @@ use Rattle.hc_auditing.specs.Ends.{EndsUnasked}
 use Rattle.hc_command.specs.Ends.{Does, Ends}
 use Rattle.hc_command.specs.Report.{Explained, ExplainedTwice}
 use Rattle.hc_command.specs.Documents.{ReportedAs}
-use Rattle.hc_command.specs.Reporting.{ReportedFor}
+use Rattle.hc_command.specs.Reporting.{ReportedAlone, ReportedFor}
 
 pub does_as : (done task : Task) (status : ℕ) (old new faults_old faults_new : Option (List ℕ)) → done ≡ task
     → Does done status old new faults_old faults_new → Does task status old new faults_old faults_new
@@ -26,16 +26,20 @@ pub explained_untwice : (json : Bool) (position : Option ℕ) (status : ℕ) (ol
 explained_untwice json position status old new faults_old faults_new (inl is) kept = inl (is, kept)
 explained_untwice json position status old new faults_old faults_new (inr is) kept = inr (explained_with_3 json position status old new faults_old faults_new is)
 
-report_with_3 : (json : Bool) (baseline : Option (List ℕ)) (strict annotates : Bool) (terms : AuditTerms) (status : ℕ) (old new faults_old faults_new : Option (List ℕ)) → status ≡ 3
-    → Keeps old new → ReportedFor json baseline strict annotates terms status old new faults_old faults_new
-report_with_3 json None true annotates terms status old new faults_old faults_new is kept = (inr is, kept)
-report_with_3 json None false annotates terms status old new faults_old faults_new is kept = inl is
-report_with_3 json (Some name) strict annotates terms status old new faults_old faults_new is kept = inr (inl is)
+alone_with_3 : (strict : Bool) (form : Form) (terms : AuditTerms) (status : ℕ) (old new faults_old faults_new : Option (List ℕ)) → status ≡ 3
+    → Keeps old new → ReportedAlone strict form terms status old new faults_old faults_new
+alone_with_3 true form terms status old new faults_old faults_new is kept = (inr is, kept)
+alone_with_3 false form terms status old new faults_old faults_new is kept = inl is
+
+report_with_3 : (baseline : Option (List ℕ)) (form : Form) (terms : AuditTerms) (status : ℕ) (old new faults_old faults_new : Option (List ℕ)) → status ≡ 3
+    → Keeps old new → ReportedFor baseline form terms status old new faults_old faults_new
+report_with_3 None form terms status old new faults_old faults_new is kept = alone_with_3 form.strict form terms status old new faults_old faults_new is kept
+report_with_3 (Some name) form terms status old new faults_old faults_new is kept = inr (inl is)
 
 report_as_3 : (html : Bool) (form : Form) (terms : AuditTerms) (status : ℕ) (old new faults_old faults_new : Option (List ℕ)) → status ≡ 3
     → Keeps old new → ReportedAs html form terms status old new faults_old faults_new
 report_as_3 true form terms status old new faults_old faults_new is kept = inl (inr is, kept)
-report_as_3 false form terms status old new faults_old faults_new is kept = report_with_3 form.json form.baseline form.strict form.annotates terms status old new faults_old faults_new is kept
+report_as_3 false form terms status old new faults_old faults_new is kept = report_with_3 form.baseline form terms status old new faults_old faults_new is kept
 
 pub fails_with_3 : (task : Task) (status : ℕ) (old new faults_old faults_new : Option (List ℕ)) → status ≡ 3 → Keeps old new
     → Does task status old new faults_old faults_new
@@ -48,7 +52,7 @@ fails_with_3 (ToConvert file) status old new faults_old faults_new is kept = inl
 fails_with_3 (ToSplit file parts dir) status old new faults_old faults_new is kept = inl is
 fails_with_3 (ToJoin dir least) status old new faults_old faults_new is kept = inl is
 fails_with_3 (ToServe listen origin connections file settings) status old new faults_old faults_new is kept = (inr is, kept)
-fails_with_3 (ToProxy listen origin file log told terms limits keeps_cookies settings) status old new faults_old faults_new is kept = (inr is, kept)
+fails_with_3 (ToProxy asked) status old new faults_old faults_new is kept = (inr is, kept)
 
 -- and what is answered to a task is how the program ends
 pub does_ends : (task : Task) (status : ℕ) (old new faults_old faults_new : Option (List ℕ)) → Does task status old new faults_old faults_new
@@ -62,7 +66,7 @@ does_ends (ToConvert file) status old new faults_old faults_new does = inr (inr 
 does_ends (ToSplit file parts dir) status old new faults_old faults_new does = inr (inr (inr (inr (inr (inr (inr (inl does)))))))
 does_ends (ToJoin dir least) status old new faults_old faults_new does = inr (inr (inr (inr (inr (inr (inr (inr (inl (least, does)))))))))
 does_ends (ToServe listen origin connections file settings) status old new faults_old faults_new does = inr (inr (inr (inr (inr (inr (inl does))))))
-does_ends (ToProxy listen origin file log told terms limits keeps_cookies settings) status old new faults_old faults_new does = inr (inr (inr (inr (inr (inr (inl does))))))
+does_ends (ToProxy asked) status old new faults_old faults_new does = inr (inr (inr (inr (inr (inr (inl does))))))
 
 -- so is what is said where nothing is done
 pub unasked_ends : (status : ℕ) (old new faults_old faults_new : Option (List ℕ)) → EndsUnasked status old new faults_old faults_new

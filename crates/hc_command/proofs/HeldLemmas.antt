@@ -12,24 +12,27 @@ use Rattle.hc_figures.specs.declared.baseline.Baseline.{Baseline}
 use Rattle.hc_figures.specs.Reports.{IsBaseline}
 use Rattle.hc_report.specs.declared.counting.CountingReport.{CountingReport}
 use Rattle.hc_report.specs.Counting.{HasCountedIn, HasHeardOf, TellsAllOf}
+use Rattle.hc_arguments.specs.Tasks.{Form}
 use Rattle.hc_options.specs.declared.auditing.AuditTerms.{AuditTerms}
 use Rattle.hc_options.specs.declared.auditing.Minimums.{Minimums}
 use Rattle.hc_command.specs.declared.baseline.BaselineTrouble.{BaselineTrouble}
 use Rattle.hc_command.specs.declared.baseline.BaselineTrouble.TheVariants as trouble
+use Rattle.hc_command.specs.declared.reporting.Concluded.{Concluded}
 use Rattle.hc_command.specs.declared.reporting.ReportEnd.{ReportEnd}
+use Rattle.hc_command.specs.declared.reporting.ReportForm.{ReportForm}
 use Rattle.hc_command.specs.declared.surveying.Outcome.{Outcome}
 use Rattle.hc_auditing.specs.declared.trouble.Trouble.{Trouble}
 use Rattle.hc_command.specs.Baseline.{IsNoBaseline, status_without}
 use Rattle.hc_auditing.specs.Line.{status_of}
 use Rattle.hc_auditing.specs.Minimums.{EndsBy, shortfall_lines, status_by}
-use Rattle.hc_command.specs.Report.{IsSurveyed, SurveysFor}
-use Rattle.hc_command.specs.Reporting.{AreOfInput, EndsFor, EndsStrictly, IsLast, IsMadeBy, IsMadeByOthers, ReportedAlone, ReportedFor, ReportedIn, ReportsBy, SaysAll, SaysReportIn, SaysReportOf, WritesIn, ends_by_gone, gone_line, is_fewer}
+use Rattle.hc_command.specs.Report.{Input, IsSurveyed, SurveysFor}
+use Rattle.hc_command.specs.Reporting.{AreOfInput, EndsFor, EndsStrictly, IsLast, IsMadeBy, IsMadeByOthers, ReportedAlone, ReportedBy, ReportedFor, ReportedIn, ReportsBy, SaysAll, SaysReportIn, SaysReportOf, WritesIn, ends_by_gone, form_with, gone_line, is_fewer}
 use Rattle.hc_auditing.proofs.AuditLemmas.{at_end}
 
 -- who reads all is told of all that the input has
-of_input : (tells : List WrongReply → Type 0) (hears : List Item → Type 0) (settings : Settings) (outcome : Outcome) (old new : Option (List ℕ))
-    (told : SurveysFor tells hears ⊥ settings old new outcome) → AreOfInput settings old new told.history told.wrongs outcome
-of_input tells hears settings outcome old new told = record {
+of_input : (tells : List WrongReply → Type 0) (hears : List Item → Type 0) (settings : Settings) (outcome : Outcome) (input : Input)
+    (told : SurveysFor tells hears ⊥ settings input outcome) → AreOfInput settings input told.history told.wrongs outcome
+of_input tells hears settings outcome input told = record {
   read = told.read;
   consumed = told.consumed;
   are = told.are;
@@ -39,42 +42,43 @@ of_input tells hears settings outcome old new told = record {
   ];
 }
 
-pub ends_for : (base : Option Baseline) (report : CountingReport) (settings : Settings) (verdict : Verdict) (end : ReportEnd) (outcome : Outcome) (old new : Option (List ℕ))
-    → SurveysFor (TellsAllOf report) (HasHeardOf report) ⊥ settings old new outcome
+pub ends_for : (base : Option Baseline) (report : CountingReport) (settings : Settings) (verdict : Verdict) (end : ReportEnd) (outcome : Outcome) (input : Input)
+    → SurveysFor (TellsAllOf report) (HasHeardOf report) ⊥ settings input outcome
     → ((h : List Item) (wrongs : List WrongReply) → TellsAllOf report wrongs → HasCountedIn report h → IsLast base h wrongs outcome verdict end)
-    → EndsFor base settings verdict end old new
-ends_for None report settings verdict end outcome old new told is = is told.history told.wrongs told.told told.heard.counted
-ends_for (Some baseline) report settings verdict end outcome old new told is = record {
+    → EndsFor base settings verdict end input
+ends_for None report settings verdict end outcome input told is = is told.history told.wrongs told.told told.heard.counted
+ends_for (Some baseline) report settings verdict end outcome input told is = record {
   history = told.history;
   wrongs = told.wrongs;
   outcome = outcome;
-  of_input = of_input (TellsAllOf report) (HasHeardOf report) settings outcome old new told;
+  of_input = of_input (TellsAllOf report) (HasHeardOf report) settings outcome input told;
   is_last = (is told.history told.wrongs told.told told.heard.counted).0;
   gone_is = (is told.history told.wrongs told.told told.heard.counted).1;
 }
 
 -- ---- what is said
 
-pub says_report : (json : Bool) (base : Option Baseline) (report : CountingReport) (settings : Settings) (outcome : Outcome) (verdict : Verdict) (status : ℕ) (input left old new : Option (List ℕ))
-    → SurveysFor (TellsAllOf report) (HasHeardOf report) ⊥ settings input left outcome
-    → ((octets : List ℕ) (h : List Item) (wrongs : List WrongReply) → TellsAllOf report wrongs → IsSurveyed octets settings h wrongs outcome → IsVerdict octets settings verdict)
-    → WritesIn json report base settings outcome verdict status old new → SaysReportIn json base settings verdict (status_of verdict) input left old new
+pub says_report : (json : Bool) (base : Option Baseline) (report : CountingReport) (settings : Settings) (concluded : Concluded) (status : ℕ) (input : Input) (old new : Option (List ℕ))
+    → SurveysFor (TellsAllOf report) (HasHeardOf report) ⊥ settings input concluded.outcome
+    → ((octets : List ℕ) (h : List Item) (wrongs : List WrongReply) → TellsAllOf report wrongs → IsSurveyed octets settings h wrongs concluded.outcome
+    → IsVerdict octets settings concluded.verdict)
+    → WritesIn json report base settings concluded status old new → SaysReportIn json base settings concluded.verdict (status_of concluded.verdict) input old new
 unfolding of_input
-says_report true base report settings outcome verdict status input left old new told is said = record {
+says_report true base report settings concluded status input old new told is said = record {
   text = said.text;
   has_status = refl;
   written = said.written;
   history = told.history;
   wrongs = told.wrongs;
-  outcome = outcome;
-  of_input = of_input (TellsAllOf report) (HasHeardOf report) settings outcome input left told;
+  outcome = concluded.outcome;
+  of_input = of_input (TellsAllOf report) (HasHeardOf report) settings concluded.outcome input told;
   is = is told.read told.history told.wrongs told.told told.are;
   report = report;
   told = told.told;
   heard = told.heard;
   all = said.all told.history told.wrongs told.told told.heard.counted;
 }
-says_report false base report settings outcome verdict status input left old new told is said =
+says_report false base report settings concluded status input old new told is said =
     (said.0, record { line = said.1.line; has_status = refl; is_line = said.1.is_line; written = said.1.written })
 
 -- ---- the baseline in an input
@@ -87,11 +91,11 @@ no_baseline_in (trouble.Trouble why) old new octets consumed end is = tt
 -- ---- in which form it is said
 
 -- without a baseline, and not in JSON
-pub says_as : (json : Bool) (base : Option Baseline) (result : Result ReportEnd Trouble) (settings : Settings) (input left old new : Option (List ℕ)) → json ≡ false → base ≡ None
-    → IfOk result (λ end. SaysReportOf false None settings end input left old new) → IfOk result (λ end. SaysReportOf json base settings end input left old new)
-says_as json base result settings input left old new is none says =
-    subst (λ (b : Option Baseline). IfOk result (λ end. SaysReportOf json b settings end input left old new)) (sym none)
-    (subst (λ (j : Bool). IfOk result (λ end. SaysReportOf j None settings end input left old new)) (sym is) says)
+pub says_as : (json : Bool) (base : Option Baseline) (result : Result ReportEnd Trouble) (settings : Settings) (input : Input) (old new : Option (List ℕ)) → json ≡ false → base ≡ None
+    → IfOk result (λ end. SaysReportOf false None settings end input old new) → IfOk result (λ end. SaysReportOf json base settings end input old new)
+says_as json base result settings input old new is none says =
+    subst (λ (b : Option Baseline). IfOk result (λ end. SaysReportOf json b settings end input old new)) (sym none)
+    (subst (λ (j : Bool). IfOk result (λ end. SaysReportOf j None settings end input old new)) (sym is) says)
 
 -- ---- by which status it ends
 
@@ -147,43 +151,51 @@ ends_with_gone strict least end status old mid new fewer (inr ends) said =
 
 -- ---- where the input isn't known
 
-pub reported_in : (json : Bool) (base : Option Baseline) (strict annotates : Bool) (terms : AuditTerms) (input left : Option (List ℕ)) (status : ℕ) (old new faults_old faults_new : Option (List ℕ))
-    → ReportsBy json base strict annotates terms.settings terms.minimums input left status old new faults_old faults_new
-    → ReportedIn json base strict annotates terms status old new faults_old faults_new
-reported_in json None strict annotates terms input left status old new faults_old faults_new (inl failed) = inl failed
-reported_in json None strict annotates terms input left status old new faults_old faults_new (inr (inl others)) = absurd others.1
-reported_in json None strict annotates terms input left status old new faults_old faults_new (inr (inr is)) =
-    let says = is.2.1 in
-    inr (says.verdict, (input, left, is.2.0, says.says, is.2.2), plain_end strict terms.minimums is.0 says.verdict status faults_old faults_new says.ends is.3)
-reported_in json (Some baseline) strict annotates terms input left status old new faults_old faults_new is = (input, left, is)
+-- a form by its parts
+abbrev form_by : Bool → Option Baseline → Bool → Bool → ReportForm
+form_by json base strict annotates = record { json = json; baseline = base; strict = strict; annotates = annotates }
 
-pub failed_in : (json : Bool) (base : Option Baseline) (strict annotates : Bool) (terms : AuditTerms) (status : ℕ) (old new faults_old faults_new : Option (List ℕ)) → status ≡ 3
-    → ReportedIn json base strict annotates terms status old new faults_old faults_new
-failed_in json None strict annotates terms status old new faults_old faults_new failed = inl failed
-failed_in json (Some baseline) strict annotates terms status old new faults_old faults_new failed = (None, None, inl failed)
+reported_by : (json : Bool) (base : Option Baseline) (strict annotates : Bool) (terms : AuditTerms) (input : Input) (status : ℕ) (old new faults_old faults_new : Option (List ℕ))
+    → ReportsBy (form_by json base strict annotates) terms input status old new faults_old faults_new
+    → ReportedIn base (form_by json base strict annotates) terms status old new faults_old faults_new
+reported_by json None strict annotates terms input status old new faults_old faults_new (inl failed) = inl failed
+reported_by json None strict annotates terms input status old new faults_old faults_new (inr (inl others)) = absurd others.1
+reported_by json None strict annotates terms input status old new faults_old faults_new (inr (inr is)) =
+    let says = is.2.1 in
+    inr (says.verdict, (input, is.2.0, says.says, is.2.2), plain_end strict terms.minimums is.0 says.verdict status faults_old faults_new says.ends is.3)
+reported_by json (Some baseline) strict annotates terms input status old new faults_old faults_new is = (input, is)
+
+pub reported_in : (form : ReportForm) (terms : AuditTerms) (input : Input) (status : ℕ) (old new faults_old faults_new : Option (List ℕ))
+    → ReportsBy form terms input status old new faults_old faults_new → ReportedIn form.baseline form terms status old new faults_old faults_new
+reported_in form terms input status old new faults_old faults_new is = reported_by form.json form.baseline form.strict form.annotates terms input status old new faults_old faults_new is
+
+pub failed_in : (base : Option Baseline) (form : ReportForm) (terms : AuditTerms) (status : ℕ) (old new faults_old faults_new : Option (List ℕ)) → status ≡ 3
+    → ReportedIn base form terms status old new faults_old faults_new
+failed_in None form terms status old new faults_old faults_new failed = inl failed
+failed_in (Some baseline) form terms status old new faults_old faults_new failed = (record { had = None; left = None }, inl failed)
 
 keeps_same : (known : Option (List ℕ)) → Keeps known known
 keeps_same None = tt
 keeps_same (Some octets) = refl
 
 -- no baseline was named
-pub unnamed_on : {A : Type 0} (asked : Option A) (name : A → List ℕ) (json strict annotates : Bool) (terms : AuditTerms) (status : ℕ) (old new faults_old faults_new : Option (List ℕ)) → asked ≡ None
-    → ReportedAlone json strict annotates terms status old new faults_old faults_new → ReportedFor json (option_map name asked) strict annotates terms status old new faults_old faults_new
-unnamed_on None name json strict annotates terms status old new faults_old faults_new is reported = reported
-unnamed_on (Some one) name json strict annotates terms status old new faults_old faults_new is reported = absurd cc
+pub unnamed_on : {A : Type 0} (asked : Option A) (name : A → List ℕ) (form : Form) (terms : AuditTerms) (status : ℕ) (old new faults_old faults_new : Option (List ℕ)) → asked ≡ None
+    → ReportedAlone form.strict form terms status old new faults_old faults_new → ReportedFor (option_map name asked) form terms status old new faults_old faults_new
+unnamed_on None name form terms status old new faults_old faults_new is reported = reported
+unnamed_on (Some one) name form terms status old new faults_old faults_new is reported = absurd cc
 
 -- one that was there
-pub held_on : {A : Type 0} (asked : Option A) (name : A → List ℕ) (one : A) (json strict annotates : Bool) (baseline : Baseline) (terms : AuditTerms) (status : ℕ)
-    (old new faults_old faults_new : Option (List ℕ)) → asked ≡ Some one → ReportedIn json (Some baseline) strict annotates terms status old new faults_old faults_new
-    → ReportedFor json (option_map name asked) strict annotates terms status old new faults_old faults_new
-held_on None name one json strict annotates baseline terms status old new faults_old faults_new is held = absurd cc
-held_on (Some other) name one json strict annotates baseline terms status old new faults_old faults_new is held = inr (inr (baseline, held))
+pub held_on : {A : Type 0} (asked : Option A) (name : A → List ℕ) (one : A) (form : Form) (baseline : Baseline) (terms : AuditTerms) (status : ℕ)
+    (old new faults_old faults_new : Option (List ℕ)) → asked ≡ Some one → ReportedIn (Some baseline) (form_with baseline form) terms status old new faults_old faults_new
+    → ReportedFor (option_map name asked) form terms status old new faults_old faults_new
+held_on None name one form baseline terms status old new faults_old faults_new is held = absurd cc
+held_on (Some other) name one form baseline terms status old new faults_old faults_new is held = inr (inr (baseline, held))
 
 -- and one that wasn't
-pub refused_on : {A : Type 0} (asked : Option A) (name : A → List ℕ) (one : A) (json strict annotates : Bool) (terms : AuditTerms) (status : ℕ) (out faults_old faults_new : Option (List ℕ)) → asked ≡ Some one
-    → (status ≡ 64) ⊎ (status ≡ 3) → ReportedFor json (option_map name asked) strict annotates terms status out out faults_old faults_new
-refused_on None name one json strict annotates terms status out faults_old faults_new is ends = absurd cc
-refused_on (Some other) name one json strict annotates terms status out faults_old faults_new is ends = inl (ends, keeps_same out)
+pub refused_on : {A : Type 0} (asked : Option A) (name : A → List ℕ) (one : A) (form : Form) (terms : AuditTerms) (status : ℕ) (out faults_old faults_new : Option (List ℕ)) → asked ≡ Some one
+    → (status ≡ 64) ⊎ (status ≡ 3) → ReportedFor (option_map name asked) form terms status out out faults_old faults_new
+refused_on None name one form terms status out faults_old faults_new is ends = absurd cc
+refused_on (Some other) name one form terms status out faults_old faults_new is ends = inl (ends, keeps_same out)
 
 -- where there is no baseline the status is one of two
 pub one_of_both : (why : BaselineTrouble) (status : ℕ) → status ≡ status_without why → (status ≡ 64) ⊎ (status ≡ 3)
@@ -191,15 +203,15 @@ one_of_both trouble.NoReport status is = inl is
 one_of_both (trouble.Trouble why) status is = inr is
 
 -- where none is named
-pub alone_refused : (json strict annotates : Bool) (terms : AuditTerms) (status : ℕ) (old new faults_old faults_new : Option (List ℕ)) → strict ≡ true
-    → ((status ≡ 64) ⊎ (status ≡ 3)) × Keeps old new → ReportedAlone json strict annotates terms status old new faults_old faults_new
-alone_refused json true annotates terms status old new faults_old faults_new is refused = refused
-alone_refused json false annotates terms status old new faults_old faults_new is refused = absurd cc
+pub alone_refused : (strict : Bool) (form : Form) (terms : AuditTerms) (status : ℕ) (old new faults_old faults_new : Option (List ℕ)) → strict ≡ true
+    → ((status ≡ 64) ⊎ (status ≡ 3)) × Keeps old new → ReportedAlone strict form terms status old new faults_old faults_new
+alone_refused true form terms status old new faults_old faults_new is refused = refused
+alone_refused false form terms status old new faults_old faults_new is refused = absurd cc
 
-pub alone_reported : (json strict annotates : Bool) (terms : AuditTerms) (status : ℕ) (old new faults_old faults_new : Option (List ℕ)) → strict ≡ false
-    → ReportedIn json None false annotates terms status old new faults_old faults_new → ReportedAlone json strict annotates terms status old new faults_old faults_new
-alone_reported json true annotates terms status old new faults_old faults_new is reported = absurd cc
-alone_reported json false annotates terms status old new faults_old faults_new is reported = reported
+pub alone_reported : (strict : Bool) (form : Form) (terms : AuditTerms) (status : ℕ) (old new faults_old faults_new : Option (List ℕ)) → strict ≡ false
+    → ReportedBy form.json form.annotates terms status old new faults_old faults_new → ReportedAlone strict form terms status old new faults_old faults_new
+alone_reported true form terms status old new faults_old faults_new is reported = absurd cc
+alone_reported false form terms status old new faults_old faults_new is reported = reported
 
 -- ---- what a report comes to
 
@@ -212,26 +224,25 @@ made_by_these true is = refl
 made_by_these false is = absurd cc
 
 -- a baseline that was made by other settings is refused
-pub refused_by : (json : Bool) (base : Option Baseline) (strict annotates : Bool) (settings : Settings) (least : Minimums) (input left : Option (List ℕ)) (status : ℕ) (out faults_old faults_new : Option (List ℕ))
-    → (status ≡ 3) ⊎ ((status ≡ 64) × IsMadeByOthers base settings) → ReportsBy json base strict annotates settings least input left status out out faults_old faults_new
-refused_by json base strict annotates settings least input left status out faults_old faults_new (inl failed) = inl failed
-refused_by json base strict annotates settings least input left status out faults_old faults_new (inr others) = inr (inl (others.0, others.1, keeps_same out))
+pub refused_by : (form : ReportForm) (terms : AuditTerms) (input : Input) (status : ℕ) (out faults_old faults_new : Option (List ℕ))
+    → (status ≡ 3) ⊎ ((status ≡ 64) × IsMadeByOthers form.baseline terms.settings) → ReportsBy form terms input status out out faults_old faults_new
+refused_by form terms input status out faults_old faults_new (inl failed) = inl failed
+refused_by form terms input status out faults_old faults_new (inr others) = inr (inl (others.0, others.1, keeps_same out))
 
 -- and else it ends so
-pub reports_by : (json : Bool) (base : Option Baseline) (strict annotates : Bool) (settings : Settings) (least : Minimums) (end : ReportEnd) (input left : Option (List ℕ)) (status : ℕ)
-    (old new faults_old faults_mid faults_new : Option (List ℕ)) → IsMadeBy base settings → SaysAll json annotates base settings end input left old new → faults_mid ≡ faults_old
-    → (status ≡ 3) ⊎ EndsStrictly strict least end status faults_mid faults_new → ReportsBy json base strict annotates settings least input left status old new faults_old faults_new
-reports_by json base strict annotates settings least end input left status old new faults_old faults_mid faults_new made says quiet (inl failed) = inl failed
-reports_by json base strict annotates settings least end input left status old new faults_old faults_mid faults_new made says quiet (inr ends) =
-    inr (inr (end, made, says, subst (λ (faults : Option (List ℕ)). EndsStrictly strict least end status faults faults_new) quiet ends))
+pub reports_by : (form : ReportForm) (terms : AuditTerms) (end : ReportEnd) (input : Input) (status : ℕ) (old new faults_old faults_mid faults_new : Option (List ℕ))
+    → IsMadeBy form.baseline terms.settings → SaysAll form terms.settings end input old new → faults_mid ≡ faults_old
+    → (status ≡ 3) ⊎ EndsStrictly form.strict terms.minimums end status faults_mid faults_new → ReportsBy form terms input status old new faults_old faults_new
+reports_by form terms end input status old new faults_old faults_mid faults_new made says quiet (inl failed) = inl failed
+reports_by form terms end input status old new faults_old faults_mid faults_new made says quiet (inr ends) =
+    inr (inr (end, made, says, subst (λ (faults : Option (List ℕ)). EndsStrictly form.strict terms.minimums end status faults faults_new) quiet ends))
 
 -- and where a file is written behind it, it may end with 3
-pub kept_in : (json : Bool) (base : Option Baseline) (strict annotates : Bool) (terms : AuditTerms) (input left : Option (List ℕ)) (status result : ℕ) (old new faults_old faults_mid faults_new : Option (List ℕ))
-    → ReportsBy json base strict annotates terms.settings terms.minimums input left status old new faults_old faults_mid → (result ≡ 3) ⊎ ((result ≡ status) × (faults_new ≡ faults_mid))
-    → ReportedIn json base strict annotates terms result old new faults_old faults_new
-kept_in json base strict annotates terms input left status result old new faults_old faults_mid faults_new reports (inl failed) =
-    failed_in json base strict annotates terms result old new faults_old faults_new failed
-kept_in json base strict annotates terms input left status result old new faults_old faults_mid faults_new reports (inr same) =
-    subst (λ (n : ℕ). ReportedIn json base strict annotates terms n old new faults_old faults_new) (sym same.0)
-    (subst (λ (faults : Option (List ℕ)). ReportedIn json base strict annotates terms status old new faults_old faults) (sym same.1)
-    (reported_in json base strict annotates terms input left status old new faults_old faults_mid reports))
+pub kept_in : (form : ReportForm) (terms : AuditTerms) (input : Input) (status result : ℕ) (old new faults_old faults_mid faults_new : Option (List ℕ))
+    → ReportsBy form terms input status old new faults_old faults_mid → (result ≡ 3) ⊎ ((result ≡ status) × (faults_new ≡ faults_mid))
+    → ReportedIn form.baseline form terms result old new faults_old faults_new
+kept_in form terms input status result old new faults_old faults_mid faults_new reports (inl failed) = failed_in form.baseline form terms result old new faults_old faults_new failed
+kept_in form terms input status result old new faults_old faults_mid faults_new reports (inr same) =
+    subst (λ (n : ℕ). ReportedIn form.baseline form terms n old new faults_old faults_new) (sym same.0)
+    (subst (λ (faults : Option (List ℕ)). ReportedIn form.baseline form terms status old new faults_old faults) (sym same.1)
+    (reported_in form terms input status old new faults_old faults_mid reports))

@@ -30,7 +30,7 @@ use Rattle.hc_auditing.specs.Line.{status_of}
 use Rattle.hc_history.specs.declared.verdicts.Finding.TheVariants.{Right, Wrong}
 use Rattle.hc_why.specs.Found.{IsThat}
 use Rattle.hc_command.specs.Reporting.{verdict_without}
-use Rattle.hc_command.specs.Report.{BreaksIfSome, ExplainedTwice, ExplainsAt, FeedsSurvey, HasNoReplyAt, IsReadOf, IsSurveyed, IsToldAgain, IsToldBehind, Reported, ReportsFor, SaysLineFirst, SaysReplyIn, StopsBy, SurveysFor, WritesIfSome, ending_of}
+use Rattle.hc_command.specs.Report.{BreaksIfSome, ExplainedTwice, ExplainsAt, FeedsSurvey, HasNoReplyAt, Input, IsReadOf, IsSurveyed, IsToldAgain, IsToldBehind, Reported, ReportsFor, SaysLineFirst, SaysReplyIn, StopsBy, SurveysFor, WritesIfSome, ending_of}
 
 -- ---- the verdict
 
@@ -59,14 +59,14 @@ yes_of octets settings h counts is = counted_whole octets settings h counts is.i
 -- ---- all octets of an input
 
 module _ {I : Type 0} (seen : I → Seen) (survey : Survey I) (tells : List WrongReply → Type 0) (hears : List Item → Type 0) (enough : Type 0) (settings : Settings)
-    (old new : Option (List ℕ)) (read : List ℕ) (consumed : Consumes old new read) (stopped : Option Stop) (f : FeedsSurvey seen survey tells hears enough settings read stopped) where
+    (input : Input) (read : List ℕ) (consumed : Consumes input.had input.left read) (stopped : Option Stop) (f : FeedsSurvey seen survey tells hears enough settings read stopped) where
   -- why it stopped
   stops_by : (known : Stop) → stopped ≡ Some known → StopsBy enough settings read f.history f.wrongs known
   stops_by known is = subst (λ s. IfSome s (StopsBy enough settings read f.history f.wrongs)) is f.stops
 
   -- a break that stands
   pub surveyed_to_a_break : (position : ℕ) (fault : RecordFault) → stopped ≡ Some (stop.Broken position fault)
-      → SurveysFor tells hears enough settings old new (Broken position fault)
+      → SurveysFor tells hears enough settings input (Broken position fault)
   surveyed_to_a_break position fault is =
       let ends : EndsSo (ending.Broken position fault) settings read f.history f.wrongs = stops_by (stop.Broken position fault) is in
       let so : (more : List ℕ) → IsSurveyed (read ++ more) settings f.history f.wrongs (Broken position fault) = λ more. record { is = ends.holds more; counted = tt } in
@@ -78,12 +78,12 @@ module _ {I : Type 0} (seen : I → Seen) (survey : Survey I) (tells : List Wron
         told = f.told;
         heard = f.heard;
         are = subst (λ (o : List ℕ). IsSurveyed o settings f.history f.wrongs (Broken position fault)) (append-nil read) (so []);
-        all = inr (before_end (λ o. IsSurveyed o settings f.history f.wrongs (Broken position fault)) old new read consumed so);
+        all = inr (before_end (λ o. IsSurveyed o settings f.history f.wrongs (Broken position fault)) input.had input.left read consumed so);
       }
 
   -- what the witness wants to see
   pub surveyed_enough : (outcome : Outcome) → stopped ≡ Some stop.Enough → IsSurveyed read settings f.history f.wrongs outcome
-      → SurveysFor tells hears enough settings old new outcome
+      → SurveysFor tells hears enough settings input outcome
   surveyed_enough outcome is surveyed = record {
     read = read;
     consumed = consumed;
@@ -96,8 +96,8 @@ module _ {I : Type 0} (seen : I → Seen) (survey : Survey I) (tells : List Wron
   }
 
   -- the end of the input
-  pub surveyed_to_the_end : (outcome : Outcome) → IsAtEnd new → IsSurveyed read settings f.history f.wrongs outcome
-      → SurveysFor tells hears enough settings old new outcome
+  pub surveyed_to_the_end : (outcome : Outcome) → IsAtEnd input.left → IsSurveyed read settings f.history f.wrongs outcome
+      → SurveysFor tells hears enough settings input outcome
   surveyed_to_the_end outcome end surveyed = record {
     read = read;
     consumed = consumed;
@@ -106,7 +106,7 @@ module _ {I : Type 0} (seen : I → Seen) (survey : Survey I) (tells : List Wron
     told = f.told;
     heard = f.heard;
     are = surveyed;
-    all = inr (at_end (λ o. IsSurveyed o settings f.history f.wrongs outcome) old new read consumed end surveyed);
+    all = inr (at_end (λ o. IsSurveyed o settings f.history f.wrongs outcome) input.had input.left read consumed end surveyed);
   }
 
 -- ---- what is said
@@ -116,13 +116,13 @@ known None f is = tt
 known (Some octets) f is = f octets is
 
 -- the verdict of who reads all
-pub verdict_of_all : (tells : List WrongReply → Type 0) (hears : List Item → Type 0) (settings : Settings) (old new : Option (List ℕ)) (outcome : Outcome) (verdict : Verdict)
-    → SurveysFor tells hears ⊥ settings old new outcome
+pub verdict_of_all : (tells : List WrongReply → Type 0) (hears : List Item → Type 0) (settings : Settings) (input : Input) (outcome : Outcome) (verdict : Verdict)
+    → SurveysFor tells hears ⊥ settings input outcome
     → ((octets : List ℕ) (h : List Item) (wrongs : List WrongReply) → tells wrongs → IsSurveyed octets settings h wrongs outcome → IsVerdict octets settings verdict)
-    → IfSome old (λ octets. IsVerdict octets settings verdict)
-verdict_of_all tells hears settings old new outcome verdict told is = elim told.all [
+    → IfSome input.had (λ octets. IsVerdict octets settings verdict)
+verdict_of_all tells hears settings input outcome verdict told is = elim told.all [
   | inl never ↦ absurd never
-  | inr surveyed ↦ known old (λ octets. is octets told.history told.wrongs told.told) surveyed
+  | inr surveyed ↦ known input.had (λ octets. is octets told.history told.wrongs told.told) surveyed
 ]
 
 -- and of who reads up to the first wrong reply
@@ -133,15 +133,15 @@ some_wrong (Some wrong) octets more settings verdict there is_no is =
     subst (λ (v : Verdict). IsVerdict (octets ++ more) settings v) (sym is_no)
     (no_stays octets more settings wrong.position wrong.reason (subst (λ (v : Verdict). IsVerdict octets settings v) is_no is))
 
-pub verdict_of_first : (tells : List WrongReply → Type 0) (hears : List Item → Type 0) (settings : Settings) (old new : Option (List ℕ)) (outcome : Outcome) (verdict : Verdict)
-    (first : Option WrongReply) → SurveysFor tells hears (IsSome first) settings old new outcome
+pub verdict_of_first : (tells : List WrongReply → Type 0) (hears : List Item → Type 0) (settings : Settings) (input : Input) (outcome : Outcome) (verdict : Verdict)
+    (first : Option WrongReply) → SurveysFor tells hears (IsSome first) settings input outcome
     → ((octets : List ℕ) (h : List Item) (wrongs : List WrongReply) → tells wrongs → IsSurveyed octets settings h wrongs outcome → IsVerdict octets settings verdict)
     → IfSome first (λ wrong. verdict ≡ No wrong.position wrong.reason)
-    → IfSome old (λ octets. IsVerdict octets settings verdict)
-verdict_of_first tells hears settings old new outcome verdict first told is is_no = elim told.all [
-  | inl there ↦ before_end (λ o. IsVerdict o settings verdict) old new told.read told.consumed
+    → IfSome input.had (λ octets. IsVerdict octets settings verdict)
+verdict_of_first tells hears settings input outcome verdict first told is is_no = elim told.all [
+  | inl there ↦ before_end (λ o. IsVerdict o settings verdict) input.had input.left told.read told.consumed
       (λ more. some_wrong first told.read more settings verdict there is_no (is told.read told.history told.wrongs told.told told.are))
-  | inr surveyed ↦ known old (λ octets. is octets told.history told.wrongs told.told) surveyed
+  | inr surveyed ↦ known input.had (λ octets. is octets told.history told.wrongs told.told) surveyed
 ]
 
 -- ---- what an explanation of the reply at a place leaves
@@ -150,23 +150,23 @@ keeps_same : (known : Option (List ℕ)) → Keeps known known
 keeps_same None = tt
 keeps_same (Some octets) = refl
 
-module _ (json : Bool) (settings : Settings) (input left again again_left : Option (List ℕ)) where
-  pub explains_so : (place status : ℕ) (old new faults : Option (List ℕ)) → WritesIfSome json settings input left again again_left place (Some status) old new
-      → ExplainsAt json settings input left again again_left place status old new faults faults
+module _ (json : Bool) (settings : Settings) (input again : Input) where
+  pub explains_so : (place status : ℕ) (old new faults : Option (List ℕ)) → WritesIfSome json settings input again place (Some status) old new
+      → ExplainsAt json settings input again place status old new faults faults
   explains_so place status old new faults says = inr (inr (says, keeps_same faults))
 
-  pub explains_nothing : (place status : ℕ) (old new faults_old faults_new : Option (List ℕ)) → status ≡ 64 → WritesIfSome json settings input left again again_left place None old new
-      → ExplainsAt json settings input left again again_left place status old new faults_old faults_new
+  pub explains_nothing : (place status : ℕ) (old new faults_old faults_new : Option (List ℕ)) → status ≡ 64 → WritesIfSome json settings input again place None old new
+      → ExplainsAt json settings input again place status old new faults_old faults_new
   explains_nothing place status old new faults_old faults_new is nothing = inr (inl (is, nothing))
 
   -- what was read, by who reads up to a place
-  module _ (tells : List WrongReply → Type 0) (hears : List Item → Type 0) (enough : Type 0) (outcome : Outcome) (told : SurveysFor tells hears enough settings input left outcome) where
-    is_read : IsReadOf settings input left told.history told.wrongs outcome
+  module _ (tells : List WrongReply → Type 0) (hears : List Item → Type 0) (enough : Type 0) (outcome : Outcome) (told : SurveysFor tells hears enough settings input outcome) where
+    is_read : IsReadOf settings input told.history told.wrongs outcome
     is_read = record { read = told.read; consumed = told.consumed; are = told.are }
 
     no_reply : (place : ℕ) → ((h : List Item) → hears h → stands_at place h ≡ false)
         → ((h : List Item) (wrongs : List WrongReply) → hears h → tells wrongs → wrong_at place wrongs ≡ None)
-        → (enough → (h : List Item) → hears h → place ≤ length h) → HasNoReplyAt settings input left place
+        → (enough → (h : List Item) → hears h → place ≤ length h) → HasNoReplyAt settings input place
     no_reply place standing none passed = record {
       history = told.history;
       wrongs = told.wrongs;
@@ -184,7 +184,7 @@ module _ (json : Bool) (settings : Settings) (input left again again_left : Opti
     pub breaks : (place : ℕ) (status : Option ℕ) (old new : Option (List ℕ)) → ((h : List Item) → hears h → stands_at place h ≡ false)
         → ((h : List Item) (wrongs : List WrongReply) → hears h → tells wrongs → wrong_at place wrongs ≡ None)
         → (enough → (h : List Item) → hears h → place ≤ length h) → BreaksIfSome json outcome place status old new
-        → WritesIfSome json settings input left again again_left place status old new
+        → WritesIfSome json settings input again place status old new
     breaks place None old new standing none passed kept = (kept, no_reply place standing none passed)
     breaks place (Some status) old new standing none passed says =
         inr (record { history = told.history; wrongs = told.wrongs; outcome = outcome; are = is_read; says = says })
@@ -192,14 +192,14 @@ module _ (json : Bool) (settings : Settings) (input left again again_left : Opti
     -- and of what is found at a place
     pub finds : (place position status : ℕ) (finding : Finding) (text : List ℕ) (old new : Option (List ℕ))
         → ((wrongs : List WrongReply) → tells wrongs → IsOfPlace place wrongs position finding) → ((h : List Item) → hears h → stands_at place h ≡ true)
-        → IsToldAgain json settings again again_left position finding text
-        → SaysReplyIn json position finding text old new status → WritesIfSome json settings input left again again_left place (Some status) old new
+        → IsToldAgain json settings again position finding text
+        → SaysReplyIn json position finding text old new status → WritesIfSome json settings input again place (Some status) old new
     finds place position status finding text old new is stands explained says =
         let of_place = is told.wrongs told.told in
         inl (record {
           finding = finding;
           told = text;
-          explained = subst (λ (at : ℕ). IsToldAgain json settings again again_left at finding text) of_place.0 explained;
+          explained = subst (λ (at : ℕ). IsToldAgain json settings again at finding text) of_place.0 explained;
           is = record {
             history = told.history;
             wrongs = told.wrongs;
@@ -217,20 +217,19 @@ is_below m n is = grind (arith, nat_tests)
 
 -- ---- where the input isn't known
 
-reported_of : (json : Bool) (settings : Settings) (input again again_left : Option (List ℕ)) (status : ℕ) (old new faults_old faults_new : Option (List ℕ))
-    → ReportsFor json settings input again again_left status old new faults_old faults_new → Reported json status old new faults_old faults_new
-reported_of json settings input again again_left status old new faults_old faults_new reports = elim reports [
+reported_of : (json : Bool) (settings : Settings) (had : Option (List ℕ)) (again : Input) (status : ℕ) (old new faults_old faults_new : Option (List ℕ))
+    → ReportsFor json settings had again status old new faults_old faults_new → Reported json status old new faults_old faults_new
+reported_of json settings had again status old new faults_old faults_new reports = elim reports [
   | inl is ↦ inl is
-  | inr says ↦ inr (record { settings = settings; input = input; again = again; again_left = again_left; says = says.0 }, says.1)
+  | inr says ↦ inr (record { settings = settings; had = had; again = again; says = says.0 }, says.1)
 ]
 
-pub explained_of : (json : Bool) (position : Option ℕ) (settings : Settings) (input left again again_left : Option (List ℕ)) (status : ℕ) (old new faults_old faults_new : Option (List ℕ))
-    → (position ≡ None → ReportsFor json settings input again again_left status old new faults_old faults_new)
-    → ((place : ℕ) → position ≡ Some place → ExplainsAt json settings input left again again_left place status old new faults_old faults_new)
+pub explained_of : (json : Bool) (position : Option ℕ) (settings : Settings) (input again : Input) (status : ℕ) (old new faults_old faults_new : Option (List ℕ))
+    → (position ≡ None → ReportsFor json settings input.had again status old new faults_old faults_new)
+    → ((place : ℕ) → position ≡ Some place → ExplainsAt json settings input again place status old new faults_old faults_new)
     → ExplainedTwice json position status old new faults_old faults_new
-explained_of json None settings input left again again_left status old new faults_old faults_new first at = reported_of json settings input again again_left status old new faults_old faults_new (first refl)
-explained_of json (Some place) settings input left again again_left status old new faults_old faults_new first at =
-    inr (record { settings = settings; input = input; left = left; again = again; again_left = again_left; explains = at place refl })
+explained_of json None settings input again status old new faults_old faults_new first at = reported_of json settings input.had again status old new faults_old faults_new (first refl)
+explained_of json (Some place) settings input again status old new faults_old faults_new first at = inr (record { settings = settings; input = input; again = again; explains = at place refl })
 
 -- ---- what is said
 
@@ -250,14 +249,14 @@ one_of : (one other : WrongReply) → Some one ≡ Some other → one ≡ other
 one_of one other same = cc
 
 -- of the first wrong reply, which was found
-pub told_behind : (json : Bool) (settings : Settings) (again again_left : Option (List ℕ)) (first : Option WrongReply) (verdict : Verdict) (position : ℕ) (finding : Finding) (told : List ℕ)
-    → IsThat first position finding → IfSome first (λ wrong. verdict ≡ No wrong.position wrong.reason) → IsToldAgain json settings again again_left position finding told
-    → IsToldBehind json settings again again_left verdict (Some told)
-told_behind json settings again again_left None verdict position finding told is said explained = absurd (not_some is.0)
-told_behind json settings again again_left (Some wrong) verdict position Right told is said explained = absurd (some_none wrong is.1)
-told_behind json settings again again_left (Some wrong) verdict position (Wrong why) told is said explained =
+pub told_behind : (json : Bool) (settings : Settings) (again : Input) (first : Option WrongReply) (verdict : Verdict) (position : ℕ) (finding : Finding) (told : List ℕ)
+    → IsThat first position finding → IfSome first (λ wrong. verdict ≡ No wrong.position wrong.reason) → IsToldAgain json settings again position finding told
+    → IsToldBehind json settings again verdict (Some told)
+told_behind json settings again None verdict position finding told is said explained = absurd (not_some is.0)
+told_behind json settings again (Some wrong) verdict position Right told is said explained = absurd (some_none wrong is.1)
+told_behind json settings again (Some wrong) verdict position (Wrong why) told is said explained =
     let same : wrong ≡ record { position = position; reason = why } = one_of wrong _ is.1 in
-    subst (λ (v : Verdict). IsToldBehind json settings again again_left v (Some told))
+    subst (λ (v : Verdict). IsToldBehind json settings again v (Some told))
     (sym (said ∙ ap (λ (w : WrongReply). No w.position w.reason) same)) explained
 
 none_there : {X : Type 0} (found : Option X) → found ≡ None → IsSome found → ⊥
@@ -270,7 +269,7 @@ none_first {X} None found there is = refl
 none_first {X} (Some wrong) found there is = absurd (none_there found is (there refl))
 
 -- nothing where no reply is wrong
-pub nothing_behind : (json : Bool) (settings : Settings) (again again_left : Option (List ℕ)) (outcome : Outcome)
-    → IsToldBehind json settings again again_left (verdict_without outcome) None
-nothing_behind json settings again again_left (Whole counts) = refl
-nothing_behind json settings again again_left (Broken position fault) = refl
+pub nothing_behind : (json : Bool) (settings : Settings) (again : Input) (outcome : Outcome)
+    → IsToldBehind json settings again (verdict_without outcome) None
+nothing_behind json settings again (Whole counts) = refl
+nothing_behind json settings again (Broken position fault) = refl

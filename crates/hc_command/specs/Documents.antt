@@ -40,8 +40,7 @@ DocumentedAlone terms status old new faults_old faults_new =
 -- in HTML, or not
 abbrev pub ReportedAs : Bool → Form → AuditTerms → ℕ → Option (List ℕ) → Option (List ℕ) → Option (List ℕ) → Option (List ℕ) → Type 0
 ReportedAs true form terms status old new faults_old faults_new = DocumentedAlone terms status old new faults_old faults_new
-ReportedAs false form terms status old new faults_old faults_new =
-    ReportedFor form.json form.baseline form.strict form.annotates terms status old new faults_old faults_new
+ReportedAs false form terms status old new faults_old faults_new = ReportedFor form.baseline form terms status old new faults_old faults_new
 
 abbrev pub ReportedOn : Form → AuditTerms → ℕ → Option (List ℕ) → Option (List ℕ) → Option (List ℕ) → Option (List ℕ) → Type 0
 ReportedOn form terms status old new faults_old faults_new = ReportedAs form.html form terms status old new faults_old faults_new

@@ -29,7 +29,7 @@ Does (ToConvert file) status old new faults_old faults_new = Converted status ol
 Does (ToSplit file parts dir) status old new faults_old faults_new = EndsSplit status old new
 Does (ToJoin dir least) status old new faults_old faults_new = EndsJoin least status old new
 Does (ToServe listen origin connections file settings) status old new faults_old faults_new = IsElsewhere status old new
-Does (ToProxy listen origin file log told terms limits keeps_cookies settings) status old new faults_old faults_new = IsElsewhere status old new
+Does (ToProxy asked) status old new faults_old faults_new = IsElsewhere status old new
 
 -- a task is answered, help or the version is shown, or the words are refused with nothing on the output
 abbrev pub Ends : ℕ → Option (List ℕ) → Option (List ℕ) → Option (List ℕ) → Option (List ℕ) → Type 0

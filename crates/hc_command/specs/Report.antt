@@ -32,6 +32,13 @@ use Rattle.hc_command.specs.declared.surveying.Stop.TheVariants.{Enough}
 use Rattle.hc_auditing.specs.Audit.{SaysLine}
 use Rattle.hc_auditing.specs.Line.{IsVerdictLine, status_of}
 
+-- ---- an input that is read
+
+-- the octets that an input had before, and those that are left of them, where they are known
+pub record Input : Type 0 where
+  pub had : Option (List ℕ)
+  pub left : Option (List ℕ)
+
 -- ---- how the reading of octets ends
 
 abbrev pub ending_of : Outcome → Ending
@@ -57,22 +64,22 @@ pub record IsSurveyed (octets : List ℕ) (settings : Settings) (h : List Item) 
 
 -- what was read of the input was surveyed, and who was told of it has heard of its items and tells its wrong replies; who has not seen enough was told of all
 -- that the input had
-pub record SurveysFor (tells : List WrongReply → Type 0) (hears : List Item → Type 0) (enough : Type 0) (settings : Settings) (old new : Option (List ℕ)) (outcome : Outcome) : Type 0 where
+pub record SurveysFor (tells : List WrongReply → Type 0) (hears : List Item → Type 0) (enough : Type 0) (settings : Settings) (input : Input) (outcome : Outcome) : Type 0 where
   pub read : List ℕ
-  pub consumed : Consumes old new read
+  pub consumed : Consumes input.had input.left read
   pub history : List Item
   pub wrongs : List WrongReply
   pub told : tells wrongs
   pub heard : hears history
   pub are : IsSurveyed read settings history wrongs outcome
-  pub all : enough ⊎ IfSome old (λ octets. IsSurveyed octets settings history wrongs outcome)
+  pub all : enough ⊎ IfSome input.had (λ octets. IsSurveyed octets settings history wrongs outcome)
 
 -- ---- what is told of a reply, when the input is read again
 
 -- what was read of the input has these items, these wrong replies and this outcome
-pub record IsReadOf (settings : Settings) (input left : Option (List ℕ)) (history : List Item) (wrongs : List WrongReply) (outcome : Outcome) : Type 0 where
+pub record IsReadOf (settings : Settings) (input : Input) (history : List Item) (wrongs : List WrongReply) (outcome : Outcome) : Type 0 where
   pub read : List ℕ
-  pub consumed : Consumes input left read
+  pub consumed : Consumes input.had input.left read
   pub are : IsSurveyed read settings history wrongs outcome
 
 -- in JSON, or as text
@@ -81,19 +88,19 @@ form_of true = Json
 form_of false = Text
 
 -- that is told, in JSON or as text, of the reply at that place, of which that is found, among the items of what was read of the input when it was read again
-pub record IsToldAgain (json : Bool) (settings : Settings) (again again_left : Option (List ℕ)) (place : ℕ) (finding : Finding) (text : List ℕ) : Type 0 where
+pub record IsToldAgain (json : Bool) (settings : Settings) (again : Input) (place : ℕ) (finding : Finding) (text : List ℕ) : Type 0 where
   pub history : List Item
   pub wrongs : List WrongReply
   pub outcome : Outcome
-  pub are : IsReadOf settings again again_left history wrongs outcome
+  pub are : IsReadOf settings again history wrongs outcome
   pub told : IsToldAmong (form_of json) history place finding text
 
 -- what is told behind a verdict: of a no what is told of the reply that is wrong first, and else nothing
-abbrev pub IsToldBehind : Bool → Settings → Option (List ℕ) → Option (List ℕ) → Verdict → Option (List ℕ) → Type 0
-IsToldBehind json settings again again_left (Yes counts) told = told ≡ None
-IsToldBehind json settings again again_left (Malformed position fault) told = told ≡ None
-IsToldBehind json settings again again_left (No position why) None = ⊥
-IsToldBehind json settings again again_left (No position why) (Some told) = IsToldAgain json settings again again_left position (Wrong why) told
+abbrev pub IsToldBehind : Bool → Settings → Input → Verdict → Option (List ℕ) → Type 0
+IsToldBehind json settings again (Yes counts) told = told ≡ None
+IsToldBehind json settings again (Malformed position fault) told = told ≡ None
+IsToldBehind json settings again (No position why) None = ⊥
+IsToldBehind json settings again (No position why) (Some told) = IsToldAgain json settings again position (Wrong why) told
 
 -- ---- what is said
 
@@ -130,23 +137,23 @@ abbrev pub SaysOf : Bool → Verdict → Option (List ℕ) → ℕ → Option (L
 SaysOf true verdict told status old new = SaysText verdict told status old new
 SaysOf false verdict told status old new = SaysLineThen verdict (unwrap_or told []) status old new
 
--- the verdict is that on all octets that the input had, where these are known, and behind it is told what there is to tell
-pub record SaysReport (json : Bool) (settings : Settings) (input again again_left : Option (List ℕ)) (status : ℕ) (old new : Option (List ℕ)) : Type 0 where
-  pub verdict : Verdict
-  pub is : IfSome input (λ octets. IsVerdict octets settings verdict)
-  pub told : Option (List ℕ)
-  pub explained : IsToldBehind json settings again again_left verdict told
-  pub says : SaysOf json verdict told status old new
+module _ (json : Bool) (settings : Settings) where
+  -- the verdict is that on all octets that the input had, where these are known, and behind it is told what there is to tell
+  pub record SaysReport (had : Option (List ℕ)) (again : Input) (status : ℕ) (old new : Option (List ℕ)) : Type 0 where
+    pub verdict : Verdict
+    pub is : IfSome had (λ octets. IsVerdict octets settings verdict)
+    pub told : Option (List ℕ)
+    pub explained : IsToldBehind json settings again verdict told
+    pub says : SaysOf json verdict told status old new
 
--- an explanation says so on the output and leaves the faults as they were; where there is none, the status is 3
-abbrev pub ReportsFor : Bool → Settings → Option (List ℕ) → Option (List ℕ) → Option (List ℕ) → ℕ → Option (List ℕ) → Option (List ℕ) → Option (List ℕ) → Option (List ℕ) → Type 0
-ReportsFor json settings input again again_left status old new faults_old faults_new =
-    (status ≡ 3) ⊎ (SaysReport json settings input again again_left status old new × Keeps faults_old faults_new)
+  -- an explanation says so on the output and leaves the faults as they were; where there is none, the status is 3
+  abbrev pub ReportsFor : Option (List ℕ) → Input → ℕ → Option (List ℕ) → Option (List ℕ) → Option (List ℕ) → Option (List ℕ) → Type 0
+  ReportsFor had again status old new faults_old faults_new = (status ≡ 3) ⊎ (SaysReport had again status old new × Keeps faults_old faults_new)
 
--- it says so, if there is a status
-abbrev pub SaysIfSome : Bool → Settings → Option (List ℕ) → Option (List ℕ) → Option (List ℕ) → Option ℕ → Option (List ℕ) → Option (List ℕ) → Type 0
-SaysIfSome json settings input again again_left None old new = ⊥
-SaysIfSome json settings input again again_left (Some status) old new = SaysReport json settings input again again_left status old new
+  -- it says so, if there is a status
+  abbrev pub SaysIfSome : Option (List ℕ) → Input → Option ℕ → Option (List ℕ) → Option (List ℕ) → Type 0
+  SaysIfSome had again None old new = ⊥
+  SaysIfSome had again (Some status) old new = SaysReport had again status old new
 
 -- ---- what is said of the reply at a position
 
@@ -185,31 +192,23 @@ SaysBreakIn false verdict status old new = SaysLine verdict status old new
 
 -- a reply stands at that place in what was read of the input, and that is found of it: it is wrong by the reason of the wrong reply that stands there among those of
 -- the octets that were read, and right where none does
-pub record IsFindingAt (settings : Settings) (input left : Option (List ℕ)) (place : ℕ) (finding : Finding) : Type 0 where
+pub record IsFindingAt (settings : Settings) (input : Input) (place : ℕ) (finding : Finding) : Type 0 where
   pub history : List Item
   pub wrongs : List WrongReply
   pub outcome : Outcome
-  pub are : IsReadOf settings input left history wrongs outcome
+  pub are : IsReadOf settings input history wrongs outcome
   pub stands : stands_at place history ≡ true
   pub reason : reason_in finding ≡ wrong_at place wrongs
 
 -- no reply stands at that place: what was read of the input has none there, right or wrong, and has the record there, or is all that the input had
-pub record HasNoReplyAt (settings : Settings) (input left : Option (List ℕ)) (place : ℕ) : Type 0 where
+pub record HasNoReplyAt (settings : Settings) (input : Input) (place : ℕ) : Type 0 where
   pub history : List Item
   pub wrongs : List WrongReply
   pub outcome : Outcome
-  pub are : IsReadOf settings input left history wrongs outcome
+  pub are : IsReadOf settings input history wrongs outcome
   pub none_stands : stands_at place history ≡ false
   pub none_wrong : wrong_at place wrongs ≡ None
-  pub all : (place ≤ length history) ⊎ IfSome input (λ octets. IsSurveyed octets settings history wrongs outcome)
-
--- the writer got what is said of the reply at that place, of which that is found, and what is told of it when it is read again
-pub record SaysFound (json : Bool) (settings : Settings) (input left again again_left : Option (List ℕ)) (place status : ℕ) (old new : Option (List ℕ)) : Type 0 where
-  pub finding : Finding
-  pub is : IsFindingAt settings input left place finding
-  pub told : List ℕ
-  pub explained : IsToldAgain json settings again again_left place finding told
-  pub says : SaysReplyIn json place finding told old new status
+  pub all : (place ≤ length history) ⊎ IfSome input.had (λ octets. IsSurveyed octets settings history wrongs outcome)
 
 -- the outcome is that a record at that place or before it breaks the transcript, and the writer got that, and this is its status
 pub record SaysBreak (json : Bool) (outcome : Outcome) (place status : ℕ) (old new : Option (List ℕ)) : Type 0 where
@@ -224,37 +223,44 @@ abbrev pub BreaksIfSome : Bool → Outcome → ℕ → Option ℕ → Option (Li
 BreaksIfSome json outcome place None old new = Keeps old new
 BreaksIfSome json outcome place (Some status) old new = SaysBreak json outcome place status old new
 
--- the writer got that a record of what was read of the input breaks the transcript, at that place or before it
-pub record SaysBrokenBefore (json : Bool) (settings : Settings) (input left : Option (List ℕ)) (place status : ℕ) (old new : Option (List ℕ)) : Type 0 where
-  pub history : List Item
-  pub wrongs : List WrongReply
-  pub outcome : Outcome
-  pub are : IsReadOf settings input left history wrongs outcome
-  pub says : SaysBreak json outcome place status old new
+module _ (json : Bool) (settings : Settings) where
+  -- the writer got what is said of the reply at that place, of which that is found, and what is told of it when it is read again
+  pub record SaysFound (input again : Input) (place status : ℕ) (old new : Option (List ℕ)) : Type 0 where
+    pub finding : Finding
+    pub is : IsFindingAt settings input place finding
+    pub told : List ℕ
+    pub explained : IsToldAgain json settings again place finding told
+    pub says : SaysReplyIn json place finding told old new status
 
--- the writer got an explanation or that the transcript breaks, if there is a status, and else nothing, since no reply stands there
-abbrev pub WritesIfSome : Bool → Settings → Option (List ℕ) → Option (List ℕ) → Option (List ℕ) → Option (List ℕ) → ℕ → Option ℕ → Option (List ℕ) → Option (List ℕ) → Type 0
-WritesIfSome json settings input left again again_left place None old new = Keeps old new × HasNoReplyAt settings input left place
-WritesIfSome json settings input left again again_left place (Some status) old new =
-    SaysFound json settings input left again again_left place status old new ⊎ SaysBrokenBefore json settings input left place status old new
+  -- the writer got that a record of what was read of the input breaks the transcript, at that place or before it
+  pub record SaysBrokenBefore (input : Input) (place status : ℕ) (old new : Option (List ℕ)) : Type 0 where
+    pub history : List Item
+    pub wrongs : List WrongReply
+    pub outcome : Outcome
+    pub are : IsReadOf settings input history wrongs outcome
+    pub says : SaysBreak json outcome place status old new
 
--- an explanation of the reply at that place says on the output what is found there, or that a record before it breaks the transcript, and leaves the faults as they
--- were; where it says neither, no reply stands there, the output gets nothing and the status is 64; where there is none for want of memory or by a device, the
--- status is 3
-abbrev pub ExplainsAt : Bool → Settings → Option (List ℕ) → Option (List ℕ) → Option (List ℕ) → Option (List ℕ) → ℕ → ℕ → Option (List ℕ) → Option (List ℕ) → Option (List ℕ) → Option (List ℕ) → Type 0
-ExplainsAt json settings input left again again_left place status old new faults_old faults_new =
-    (status ≡ 3) ⊎ ((status ≡ 64) × (Keeps old new × HasNoReplyAt settings input left place))
-    ⊎ ((SaysFound json settings input left again again_left place status old new ⊎ SaysBrokenBefore json settings input left place status old new) × Keeps faults_old faults_new)
+  -- the writer got an explanation or that the transcript breaks, if there is a status, and else nothing, since no reply stands there
+  abbrev pub WritesIfSome : Input → Input → ℕ → Option ℕ → Option (List ℕ) → Option (List ℕ) → Type 0
+  WritesIfSome input again place None old new = Keeps old new × HasNoReplyAt settings input place
+  WritesIfSome input again place (Some status) old new = SaysFound input again place status old new ⊎ SaysBrokenBefore input place status old new
+
+  -- an explanation of the reply at that place says on the output what is found there, or that a record before it breaks the transcript, and leaves the faults as they
+  -- were; where it says neither, no reply stands there, the output gets nothing and the status is 64; where there is none for want of memory or by a device, the
+  -- status is 3
+  abbrev pub ExplainsAt : Input → Input → ℕ → ℕ → Option (List ℕ) → Option (List ℕ) → Option (List ℕ) → Option (List ℕ) → Type 0
+  ExplainsAt input again place status old new faults_old faults_new =
+      (status ≡ 3) ⊎ ((status ≡ 64) × (Keeps old new × HasNoReplyAt settings input place))
+      ⊎ ((SaysFound input again place status old new ⊎ SaysBrokenBefore input place status old new) × Keeps faults_old faults_new)
 
 -- ---- where the input isn't known
 
 -- the writer got what is said of the verdict on some input, and behind it what is told, and this is its status
 pub record SaysSomeReport (json : Bool) (status : ℕ) (old new : Option (List ℕ)) : Type 0 where
   pub settings : Settings
-  pub input : Option (List ℕ)
-  pub again : Option (List ℕ)
-  pub again_left : Option (List ℕ)
-  pub says : SaysReport json settings input again again_left status old new
+  pub had : Option (List ℕ)
+  pub again : Input
+  pub says : SaysReport json settings had again status old new
 
 -- an explanation of the first wrong reply of some input, in JSON or as text
 abbrev pub Reported : Bool → ℕ → Option (List ℕ) → Option (List ℕ) → Option (List ℕ) → Option (List ℕ) → Type 0
@@ -264,11 +270,9 @@ Reported json status old new faults_old faults_new =
 -- an explanation of the reply at that place of some input
 pub record ExplainsSome (json : Bool) (place status : ℕ) (old new faults_old faults_new : Option (List ℕ)) : Type 0 where
   pub settings : Settings
-  pub input : Option (List ℕ)
-  pub left : Option (List ℕ)
-  pub again : Option (List ℕ)
-  pub again_left : Option (List ℕ)
-  pub explains : ExplainsAt json settings input left again again_left place status old new faults_old faults_new
+  pub input : Input
+  pub again : Input
+  pub explains : ExplainsAt json settings input again place status old new faults_old faults_new
 
 -- an explanation of a reply of some input, which is read twice: of the first wrong one, or else of the one at that place
 abbrev pub ExplainedTwice : Bool → Option ℕ → ℕ → Option (List ℕ) → Option (List ℕ) → Option (List ℕ) → Option (List ℕ) → Type 0

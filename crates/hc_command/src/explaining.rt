@@ -74,12 +74,13 @@ pub fn explain<R: Read, S: Read, W: Write, E: Write>(
     // Without a position the verdict on all octets that the input had comes first.
     ensures first { terms.position ≡ None
         → ReportsFor terms.json terms.settings (R.remaining twice.old.first)
-        (S.remaining twice.old.again) (S.remaining twice.new.again) result
+        (record { had = S.remaining twice.old.again; left = S.remaining twice.new.again }) result
         (W.contents output.old) (W.contents output.new) (E.contents faults.old) (E.contents faults.new) }
     // At a position what is found there of what was read of the input, or a break before it.
     ensures at { (place : ℕ) → terms.position ≡ Some place
-        → ExplainsAt terms.json terms.settings (R.remaining twice.old.first) (R.remaining twice.new.first)
-        (S.remaining twice.old.again) (S.remaining twice.new.again) place result
+        → ExplainsAt terms.json terms.settings
+        (record { had = R.remaining twice.old.first; left = R.remaining twice.new.first })
+        (record { had = S.remaining twice.old.again; left = S.remaining twice.new.again }) place result
         (W.contents output.old) (W.contents output.new) (E.contents faults.old) (E.contents faults.new) }
 {
     match explained(alloc, terms, twice, output) {
@@ -106,12 +107,12 @@ fn explained<R: Read, S: Read, W: Write>(
 ) -> Result<Option<u8>, Trouble>
     ensures first { terms.position ≡ None
         → IfOk result (λ status. SaysIfSome terms.json terms.settings (R.remaining twice.old.first)
-        (S.remaining twice.old.again) (S.remaining twice.new.again) status
+        (record { had = S.remaining twice.old.again; left = S.remaining twice.new.again }) status
         (W.contents output.old) (W.contents output.new)) }
     ensures at { (place : ℕ) → terms.position ≡ Some place
         → IfOk result (λ status. WritesIfSome terms.json terms.settings
-        (R.remaining twice.old.first) (R.remaining twice.new.first)
-        (S.remaining twice.old.again) (S.remaining twice.new.again) place status
+        (record { had = R.remaining twice.old.first; left = R.remaining twice.new.first })
+        (record { had = S.remaining twice.old.again; left = S.remaining twice.new.again }) place status
         (W.contents output.old) (W.contents output.new)) }
 {
     match terms.position {
@@ -128,7 +129,7 @@ fn first_explained<R: Read, S: Read, W: Write>(
     output: &mut W,
 ) -> Result<u8, Trouble>
     ensures { IfOk result (λ status. SaysReport terms.json terms.settings (R.remaining twice.old.first)
-        (S.remaining twice.old.again) (S.remaining twice.new.again) status
+        (record { had = S.remaining twice.old.again; left = S.remaining twice.new.again }) status
         (W.contents output.old) (W.contents output.new)) }
 {
     let json = terms.json;
@@ -189,8 +190,8 @@ fn reply_explained<R: Read, S: Read, W: Write>(
     output: &mut W,
 ) -> Result<Option<u8>, Trouble>
     ensures { IfOk result (λ status. WritesIfSome terms.json terms.settings
-        (R.remaining twice.old.first) (R.remaining twice.new.first)
-        (S.remaining twice.old.again) (S.remaining twice.new.again) position status
+        (record { had = R.remaining twice.old.first; left = R.remaining twice.new.first })
+        (record { had = S.remaining twice.old.again; left = S.remaining twice.new.again }) position status
         (W.contents output.old) (W.contents output.new)) }
 {
     let json = terms.json;
@@ -268,7 +269,8 @@ fn told_again<S: Read>(
     json: bool,
     again: &mut S,
 ) -> Result<String, Trouble>
-    ensures { IfOk result (λ told. IsToldAgain json settings (S.remaining again.old) (S.remaining again.new)
+    ensures { IfOk result (λ told. IsToldAgain json settings
+        (record { had = S.remaining again.old; left = S.remaining again.new })
         (position_of found) (finding_of found) (string_bytes told)) }
 {
     let (position, finding) = (found.position, found.finding);

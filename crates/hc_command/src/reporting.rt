@@ -132,8 +132,8 @@ pub fn report<R: Read, W: Write, E: Write>(
     output: &mut W,
     faults: &mut E,
 ) -> u8
-    ensures { ReportsBy form.json form.baseline form.strict form.annotates terms.settings terms.minimums
-        (R.remaining input.old) (R.remaining input.new) result
+    ensures { ReportsBy form terms
+        (record { had = R.remaining input.old; left = R.remaining input.new }) result
         (W.contents output.old) (W.contents output.new) (E.contents faults.old) (E.contents faults.new) }
 {
     let alloc = beside.alloc();
@@ -238,7 +238,8 @@ fn reported_whole<R: Read, W: Write>(
     input: &mut R,
     output: &mut W,
 ) -> Result<ReportEnd, Trouble>
-    ensures { IfOk result (λ end. SaysAll form.now.json form.now.annotates form.now.baseline settings.now end (R.remaining input.old) (R.remaining input.new)
+    ensures { IfOk result (λ end. SaysAll form.now settings.now end
+        (record { had = R.remaining input.old; left = R.remaining input.new })
         (W.contents output.old) (W.contents output.new)) }
 {
     let end = reported(alloc, settings, form, beside, input, output)?;
@@ -268,7 +269,8 @@ fn reported<R: Read, W: Write>(
     input: &mut R,
     output: &mut W,
 ) -> Result<ReportEnd, Trouble>
-    ensures { IfOk result (λ end. SaysReportOf form.now.json form.now.baseline settings.now end (R.remaining input.old) (R.remaining input.new)
+    ensures { IfOk result (λ end. SaysReportOf form.now.json form.now.baseline settings.now end
+        (record { had = R.remaining input.old; left = R.remaining input.new })
         (W.contents output.old) (W.contents output.new)) }
 {
     if form.json {
@@ -295,7 +297,8 @@ fn grouped<R: Read, W: Write>(
     input: &mut R,
     output: &mut W,
 ) -> Result<ReportEnd, Trouble>
-    ensures { IfOk result (λ end. SaysReportOf false None settings.now end (R.remaining input.old) (R.remaining input.new)
+    ensures { IfOk result (λ end. SaysReportOf false None settings.now end
+        (record { had = R.remaining input.old; left = R.remaining input.new })
         (W.contents output.old) (W.contents output.new)) }
 {
     let mut report = Report::new(alloc, settings.copy(alloc)?)?;
@@ -317,7 +320,8 @@ fn counted<R: Read, W: Write>(
     input: &mut R,
     output: &mut W,
 ) -> Result<ReportEnd, Trouble>
-    ensures { IfOk result (λ end. SaysReportOf form.now.json form.now.baseline settings.now end (R.remaining input.old) (R.remaining input.new)
+    ensures { IfOk result (λ end. SaysReportOf form.now.json form.now.baseline settings.now end
+        (record { had = R.remaining input.old; left = R.remaining input.new })
         (W.contents output.old) (W.contents output.new)) }
 {
     let asked = are_asked(form, beside);
@@ -404,8 +408,8 @@ fn said_in<W: Write>(
     concluded: &Concluded,
     output: &mut W,
 ) -> Result<u8, Trouble>
-    ensures { IfOk result (λ status. WritesIn form.now.json report form.now.baseline settings.now concluded.now.outcome concluded.now.verdict status
-        (W.contents output.old) (W.contents output.new)) }
+    ensures { IfOk result (λ status. WritesIn form.now.json report form.now.baseline settings.now
+        concluded.now status (W.contents output.old) (W.contents output.new)) }
 {
     let baseline = form.baseline.as_ref();
     if form.json {
@@ -423,8 +427,8 @@ fn said_in_json<W: Write>(
     concluded: &Concluded,
     output: &mut W,
 ) -> Result<u8, Trouble>
-    ensures { IfOk result (λ status. WritesInJson report (option_map (λ b. b.now) baseline.entry) settings.now concluded.now.outcome concluded.now.verdict status
-        (W.contents output.old) (W.contents output.new)) }
+    ensures { IfOk result (λ status. WritesInJson report (option_map (λ b. b.now) baseline.entry) settings.now
+        concluded.now status (W.contents output.old) (W.contents output.new)) }
 {
     let outcome = &concluded.outcome;
     let mut text = report.json(settings, baseline, outcome.ending(), outcome.counts())?;

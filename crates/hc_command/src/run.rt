@@ -256,8 +256,8 @@ fn report_alone<R, W: Write, E: Write>(
 ) -> u8
 where
     R: Files + Input + AllocGlobal,
-    ensures { ReportedAlone form.entry.json form.entry.strict form.entry.annotates terms result (W.contents output.old) (W.contents output.new)
-        (E.contents faults.old) (E.contents faults.new) }
+    ensures { ReportedAlone form.entry.strict (form_of form.entry) terms result
+        (W.contents output.old) (W.contents output.new) (E.contents faults.old) (E.contents faults.new) }
 {
     if form.strict {
         return refused(rt.alloc(), output, faults);
@@ -325,7 +325,7 @@ fn reported<R, W: Write, E: Write>(
 ) -> u8
 where
     R: Files + Input + AllocGlobal,
-    ensures { ReportedIn form.json form.baseline form.strict form.annotates terms result (W.contents output.old) (W.contents output.new)
+    ensures { ReportedIn form.baseline form terms result (W.contents output.old) (W.contents output.new)
         (E.contents faults.old) (E.contents faults.new) }
 {
     match input_of(rt, files.input) {

@@ -95,7 +95,8 @@ pub(crate) fn surveyed<R: Read, T: Reading<MapIndex>>(
     witness: &mut T,
 ) -> Result<Outcome, Trouble>
     ensures surveyed { T.tells witness.old [] → T.hears witness.old []
-        → IfOk result (SurveysFor (T.tells witness.new) (T.hears witness.new) (T.enough witness.new) settings (R.remaining input.old) (R.remaining input.new)) }
+        → IfOk result (SurveysFor (T.tells witness.new) (T.hears witness.new) (T.enough witness.new) settings
+        (record { had = R.remaining input.old; left = R.remaining input.new })) }
     ensures err { IfErr result (λ trouble. is_of_output trouble ≡ false) }
 {
     let mut piece = buffer(alloc)?;
@@ -112,7 +113,8 @@ fn surveyed_by<I: Index + Drop, R: Read, T: Reading<I>>(
 ) -> Result<Outcome, Trouble>
     requires { 0 < length piece.old }
     ensures surveyed { (settings : Settings) → IsToldOf (Surveys I.seen surveying.survey settings []) (T.tells witness.old) (T.hears witness.old)
-        → IfOk result (SurveysFor (T.tells witness.new) (T.hears witness.new) (T.enough witness.new) settings (R.remaining input.old) (R.remaining input.new)) }
+        → IfOk result (SurveysFor (T.tells witness.new) (T.hears witness.new) (T.enough witness.new) settings
+        (record { had = R.remaining input.old; left = R.remaining input.new })) }
     ensures err { IfErr result (λ trouble. is_of_output trouble ≡ false) }
 {
     match pull(&mut surveying, witness, input, piece)? {

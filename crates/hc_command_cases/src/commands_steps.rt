@@ -36,11 +36,7 @@ fn say_results(alloc: Global, results: &[StepResult], out: &mut String) -> Resul
 fn say_answer(alloc: Global, answer: &StepResult, out: &mut String) -> Result<(), AllocError> {
     match answer {
         Ok(actions) => say_actions(alloc, actions.as_slice(), out),
-        Err(fault) => {
-            let number = fault.number();
-            let name = fault.name();
-            write!(out, "{number} {name}")
-        }
+        Err(fault) => write!(out, "{fault:?}"),
     }
 }
 

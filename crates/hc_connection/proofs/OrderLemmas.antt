@@ -40,7 +40,7 @@ opens_it c was = ap (λ (b : Bool). cond b true was) (same_itself c)
 -- what was opened first, and wasn't closed since, is open
 opened_connected : (c : ℕ) (log : List Move) → first_in log ≡ Some (ClientOpened c) → is_closed_in c log ≡ false → is_connected c log ≡ true
 opened_connected c [] first unclosed = absurd (cc)
-opened_connected c (Before last number given got reads failures ∷ log) first unclosed = absurd (cc)
+opened_connected c (Before beginning ∷ log) first unclosed = absurd (cc)
 opened_connected c (Heard occurrence ∷ log) first unclosed = by (first_in log) refl first (λ earlier. opened_connected c log earlier unclosed)
   where
     by : (o : Option Happening) → first_in log ≡ o → earlier_or o occurrence.event.of ≡ Some (ClientOpened c) → (first_in log ≡ Some (ClientOpened c) → is_connected c log ≡ true)
@@ -58,7 +58,7 @@ opened_connected c (Closed link ∷ log) first unclosed =
 -- where nothing has happened no connection was opened
 none_opened : (log : List Move) → first_in log ≡ None → opened_in log ≡ 0
 none_opened [] none = refl
-none_opened (Before last number given got reads failures ∷ log) none = refl
+none_opened (Before beginning ∷ log) none = refl
 none_opened (Heard occurrence ∷ log) none = absurd (by (first_in log) none)
   where
     by : (o : Option Happening) → earlier_or o occurrence.event.of ≡ None → ⊥
@@ -97,7 +97,7 @@ by_closed false was now on is = on is
 -- an open forward is underway: its end alone leaves it so
 open_underway : (f : ℕ) (log : List Move) → is_open_in f log ≡ true → is_underway f log ≡ true
 open_underway f [] is = absurd (cc)
-open_underway f (Before last number given got reads failures ∷ log) is = absurd (cc)
+open_underway f (Before beginning ∷ log) is = absurd (cc)
 open_underway f (Heard occurrence ∷ log) is = still_underway f occurrence.event.of (is_open_in f log) (is_underway f log) (open_underway f log) is
 open_underway f (Sent to octets ∷ log) is = by_sent (is_on f to) (is_open_in f log) (is_underway f log) (open_underway f log) is
 open_underway f (Closed link ∷ log) is = by_closed (is_on f link) (is_open_in f log) (is_underway f log) (open_underway f log) is

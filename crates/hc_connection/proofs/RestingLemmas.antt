@@ -97,7 +97,7 @@ false_true e = cc
 
 its_own : (n c : ℕ) (log : List Move) → AreOf n log → is_connected c log ≡ true → c ≡ n
 its_own n c [] own is = absurd (false_true is)
-its_own n c (Before last number given got reads failures ∷ log) own is = absurd (false_true is)
+its_own n c (Before beginning ∷ log) own is = absurd (false_true is)
 its_own n c (Heard occurrence ∷ log) own is = by occurrence.event.of own.0 is (λ was. its_own n c log own.1 was)
   where
     opened : (d : ℕ) (b : Bool) → nat_eq d c ≡ b → d ≡ n → cond b true (is_connected c log) ≡ true → (is_connected c log ≡ true → c ≡ n) → c ≡ n

@@ -7,9 +7,10 @@ use Rattle.hc_connection.specs.Moves.{AreMoments}
 use Rattle.hc_order.specs.Log.{Move}
 use Rattle.hc_connection.specs.Sides.{Opens, Tells}
 
--- what passed at the client's link, and at those of forwards that are open, is what the log says; what happened first is that the connection was opened; each moment is one that the clock may tell; and links were read in order
-abbrev pub HasPassed : {C L : Type 0} (client_gave client_got : C → List ℕ → Type 0) (client_was_read : C → ℕ → Type 0) (count : C → ℕ) (origin_gave origin_got : L → List ℕ → Type 0)
-    (may_tell : ℕ → Type 0) (opened : Bool) → ClientSide C → BTreeMap ℕ (Option L) → List Move → Type 0
-HasPassed client_gave client_got client_was_read count origin_gave origin_got may_tell opened client links log =
-    Tells client_gave client_got client_was_read count client log × Opens opened client.number log × AreMoments may_tell log
-    × AreKept origin_gave origin_got links log × AreInOrder log
+-- what a client's link tells: what was read from it and written to it, how often it was read, and how often it failed
+module _ {C L : Type 0} (gave got : C → List ℕ → Type 0) (was_read : C → ℕ → Type 0) (count : C → ℕ) where
+  -- what passed at the client's link, and at those of forwards that are open, is what the log says; what happened first is that the connection was opened; each
+  -- moment is one that the clock may tell; and links were read in order
+  abbrev pub HasPassed : (origin_gave origin_got : L → List ℕ → Type 0) (may_tell : ℕ → Type 0) (opened : Bool) → ClientSide C → BTreeMap ℕ (Option L) → List Move → Type 0
+  HasPassed origin_gave origin_got may_tell opened client links log =
+      Tells gave got was_read count client log × Opens opened client.number log × AreMoments may_tell log × AreKept origin_gave origin_got links log × AreInOrder log

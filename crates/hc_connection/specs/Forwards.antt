@@ -26,7 +26,7 @@ ends f other = false
 -- octets were sent on it, and since then neither its end nor its failure was heard, nor was it closed
 abbrev pub is_open_in : ℕ → List Move → Bool
 is_open_in f [] = false
-is_open_in f (Before last number given got reads failures ∷ log) = false
+is_open_in f (Before beginning ∷ log) = false
 is_open_in f (Heard occurrence ∷ log) = if ends f occurrence.event.of then false else is_open_in f log
 is_open_in f (Sent to octets ∷ log) = if is_on f to then true else is_open_in f log
 is_open_in f (Closed link ∷ log) = if is_on f link then false else is_open_in f log
@@ -48,7 +48,7 @@ read_behind f other before = before
 -- the octets that were read there since it was opened
 abbrev pub read_on : ℕ → List Move → List ℕ
 read_on f [] = []
-read_on f (Before last number given got reads failures ∷ log) = []
+read_on f (Before beginning ∷ log) = []
 read_on f (Heard occurrence ∷ log) = read_behind f occurrence.event.of (read_on f log)
 read_on f (Sent to octets ∷ log) = if is_on f to then [] else read_on f log
 read_on f (Closed link ∷ log) = read_on f log
@@ -56,7 +56,7 @@ read_on f (Closed link ∷ log) = read_on f log
 -- the octets that were sent there as it was opened
 abbrev pub sent_on : ℕ → List Move → List ℕ
 sent_on f [] = []
-sent_on f (Before last number given got reads failures ∷ log) = []
+sent_on f (Before beginning ∷ log) = []
 sent_on f (Heard occurrence ∷ log) = sent_on f log
 sent_on f (Sent to octets ∷ log) = if is_on f to then octets else sent_on f log
 sent_on f (Closed link ∷ log) = sent_on f log
@@ -86,7 +86,7 @@ IsNext other log = Unit {0}
 
 abbrev pub AreInOrder : List Move → Type 0
 AreInOrder [] = Unit {0}
-AreInOrder (Before last number given got reads failures ∷ log) = AreInOrder log
+AreInOrder (Before beginning ∷ log) = AreInOrder log
 AreInOrder (Heard occurrence ∷ log) = IsNext occurrence.event.of log × AreInOrder log
 AreInOrder (Sent to octets ∷ log) = AreInOrder log
 AreInOrder (Closed link ∷ log) = AreInOrder log

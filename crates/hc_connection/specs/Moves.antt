@@ -25,7 +25,7 @@ IsOf c Stopping = ⊥
 
 abbrev pub AreOf : ℕ → List Move → Type 0
 AreOf c [] = Unit {0}
-AreOf c (Before last number given got reads failures ∷ log) = number ≡ c
+AreOf c (Before beginning ∷ log) = beginning.number ≡ c
 AreOf c (Heard occurrence ∷ log) = IsOf c occurrence.event.of × AreOf c log
 AreOf c (Sent to octets ∷ log) = AreOf c log
 AreOf c (Closed link ∷ log) = AreOf c log
@@ -37,7 +37,7 @@ given_by other = []
 -- the octets that were read from its link
 abbrev pub given_in : List Move → List ℕ
 given_in [] = []
-given_in (Before last number given got reads failures ∷ log) = given
+given_in (Before beginning ∷ log) = beginning.given
 given_in (Heard occurrence ∷ log) = given_in log ++ given_by occurrence.event.of
 given_in (Sent to octets ∷ log) = given_in log
 given_in (Closed link ∷ log) = given_in log
@@ -49,7 +49,7 @@ sent_by c (Origin f) octets = []
 -- the octets that were to be written to it
 abbrev pub sent_in : ℕ → List Move → List ℕ
 sent_in c [] = []
-sent_in c (Before last number given got reads failures ∷ log) = got
+sent_in c (Before beginning ∷ log) = beginning.got
 sent_in c (Heard occurrence ∷ log) = sent_in c log
 sent_in c (Sent to octets ∷ log) = sent_in c log ++ sent_by c to octets
 sent_in c (Closed link ∷ log) = sent_in c log
@@ -57,7 +57,7 @@ sent_in c (Closed link ∷ log) = sent_in c log
 -- how often it had failed before
 abbrev pub failures_before : List Move → ℕ
 failures_before [] = 0
-failures_before (Before last number given got reads failures ∷ log) = failures
+failures_before (Before beginning ∷ log) = beginning.failures
 failures_before (Heard occurrence ∷ log) = failures_before log
 failures_before (Sent to octets ∷ log) = failures_before log
 failures_before (Closed link ∷ log) = failures_before log
@@ -65,7 +65,7 @@ failures_before (Closed link ∷ log) = failures_before log
 -- how often it had been read before
 abbrev pub reads_before : List Move → ℕ
 reads_before [] = 0
-reads_before (Before last number given got reads failures ∷ log) = reads
+reads_before (Before beginning ∷ log) = beginning.reads
 reads_before (Heard occurrence ∷ log) = reads_before log
 reads_before (Sent to octets ∷ log) = reads_before log
 reads_before (Closed link ∷ log) = reads_before log
@@ -78,7 +78,7 @@ earlier_or None of = Some of
 
 abbrev pub first_in : List Move → Option Happening
 first_in [] = None
-first_in (Before last number given got reads failures ∷ log) = None
+first_in (Before beginning ∷ log) = None
 first_in (Heard occurrence ∷ log) = earlier_or (first_in log) occurrence.event.of
 first_in (Sent to octets ∷ log) = first_in log
 first_in (Closed link ∷ log) = first_in log
@@ -92,7 +92,7 @@ one_for c (Origin f) = 0
 -- how many replies were sent to it
 abbrev pub replies_in : ℕ → List Move → ℕ
 replies_in c [] = 0
-replies_in c (Before last number given got reads failures ∷ log) = 0
+replies_in c (Before beginning ∷ log) = 0
 replies_in c (Heard occurrence ∷ log) = replies_in c log
 replies_in c (Sent to octets ∷ log) = one_for c to + replies_in c log
 replies_in c (Closed link ∷ log) = replies_in c log
@@ -104,7 +104,7 @@ one_of_client other = 0
 -- how often octets of the client came
 abbrev pub client_reads_in : List Move → ℕ
 client_reads_in [] = 0
-client_reads_in (Before last number given got reads failures ∷ log) = 0
+client_reads_in (Before beginning ∷ log) = 0
 client_reads_in (Heard occurrence ∷ log) = one_of_client occurrence.event.of + client_reads_in log
 client_reads_in (Sent to octets ∷ log) = client_reads_in log
 client_reads_in (Closed link ∷ log) = client_reads_in log
@@ -117,7 +117,7 @@ one_of_origin other = 0
 -- how often octets of an origin came, or its end
 abbrev pub origin_reads_in : List Move → ℕ
 origin_reads_in [] = 0
-origin_reads_in (Before last number given got reads failures ∷ log) = 0
+origin_reads_in (Before beginning ∷ log) = 0
 origin_reads_in (Heard occurrence ∷ log) = one_of_origin occurrence.event.of + origin_reads_in log
 origin_reads_in (Sent to octets ∷ log) = origin_reads_in log
 origin_reads_in (Closed link ∷ log) = origin_reads_in log
@@ -137,7 +137,7 @@ most_reads = 1000000
 -- whether its connection was closed
 abbrev pub is_closed_in : ℕ → List Move → Bool
 is_closed_in c [] = false
-is_closed_in c (Before last number given got reads failures ∷ log) = false
+is_closed_in c (Before beginning ∷ log) = false
 is_closed_in c (Heard occurrence ∷ log) = is_closed_in c log
 is_closed_in c (Sent to octets ∷ log) = is_closed_in c log
 is_closed_in c (Closed link ∷ log) = is_its c link || is_closed_in c log
@@ -149,7 +149,7 @@ is_end_of c other = false
 -- whether it was told that the client sends no more
 abbrev pub is_ended_in : ℕ → List Move → Bool
 is_ended_in c [] = false
-is_ended_in c (Before last number given got reads failures ∷ log) = false
+is_ended_in c (Before beginning ∷ log) = false
 is_ended_in c (Heard occurrence ∷ log) = if is_end_of c occurrence.event.of then true else is_ended_in c log
 is_ended_in c (Sent to octets ∷ log) = is_ended_in c log
 is_ended_in c (Closed link ∷ log) = is_ended_in c log
@@ -161,7 +161,7 @@ IsHeard c log = (is_ended_in c log ≡ false) × (is_closed_in c log ≡ false)
 -- no octets of it are read there, nor behind so many replies, and its end comes once at the most
 abbrev pub ReadsInTime : ℕ → List Move → Type 0
 ReadsInTime c [] = Unit {0}
-ReadsInTime c (Before last number given got reads failures ∷ log) = Unit {0}
+ReadsInTime c (Before beginning ∷ log) = Unit {0}
 ReadsInTime c (Heard occurrence ∷ log) =
     (is_of_client occurrence.event.of ≡ true → (replies_in c log < most_replies) × IsHeard c log) × (is_end_of c occurrence.event.of ≡ true → IsHeard c log) × ReadsInTime c log
 ReadsInTime c (Sent to octets ∷ log) = ReadsInTime c log
@@ -184,7 +184,7 @@ is_of_reads Abandoned = false
 -- something was told for that
 abbrev pub is_spent_in : List Move → Bool
 is_spent_in [] = false
-is_spent_in (Before last number given got reads failures ∷ log) = false
+is_spent_in (Before beginning ∷ log) = false
 is_spent_in (Heard occurrence ∷ log) = if is_of_reads occurrence.reason then true else is_spent_in log
 is_spent_in (Sent to octets ∷ log) = is_spent_in log
 is_spent_in (Closed link ∷ log) = is_spent_in log
@@ -228,7 +228,7 @@ HappensFor c other reason log = (reason ≡ Peer) × AreRead log
 -- each is told for its reason
 abbrev pub HaveReasons : ℕ → List Move → Type 0
 HaveReasons c [] = Unit {0}
-HaveReasons c (Before last number given got reads failures ∷ log) = Unit {0}
+HaveReasons c (Before beginning ∷ log) = Unit {0}
 HaveReasons c (Heard occurrence ∷ log) = HappensFor c occurrence.event.of occurrence.reason log × HaveReasons c log
 HaveReasons c (Sent to octets ∷ log) = HaveReasons c log
 HaveReasons c (Closed link ∷ log) = HaveReasons c log
@@ -238,7 +238,7 @@ HaveReasons c (Closed link ∷ log) = HaveReasons c log
 -- each moment is one that the clock may tell
 abbrev pub AreMoments : (ℕ → Type 0) → List Move → Type 0
 AreMoments may_tell [] = Unit {0}
-AreMoments may_tell (Before last number given got reads failures ∷ log) = AreMoments may_tell log
+AreMoments may_tell (Before beginning ∷ log) = AreMoments may_tell log
 AreMoments may_tell (Heard occurrence ∷ log) = may_tell occurrence.event.moment × AreMoments may_tell log
 AreMoments may_tell (Sent to octets ∷ log) = AreMoments may_tell log
 AreMoments may_tell (Closed link ∷ log) = AreMoments may_tell log
@@ -253,7 +253,7 @@ octets_of other = []
 -- each read brought at most so many octets
 abbrev pub ReadsFew : List Move → Type 0
 ReadsFew [] = Unit {0}
-ReadsFew (Before last number given got reads failures ∷ log) = Unit {0}
+ReadsFew (Before beginning ∷ log) = Unit {0}
 ReadsFew (Heard occurrence ∷ log) = (length (octets_of occurrence.event.of) ≤ most_octets) × ReadsFew log
 ReadsFew (Sent to octets ∷ log) = ReadsFew log
 ReadsFew (Closed link ∷ log) = ReadsFew log

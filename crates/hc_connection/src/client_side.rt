@@ -45,7 +45,14 @@ impl<C: Link> ClientSide<C> {
     /// That of a client who has just connected.
     pub(crate) fn new(number: u64, link: C) -> Self
         ensures tells { (last : Option ℕ) (given got : List ℕ) (reads : ℕ) → C.has_given link given → C.has_got link got → C.was_read link reads
-            → Tells C.has_given C.has_got C.was_read C.count result (Before last number given got reads (C.count link) ∷ []) }
+            → Tells C.has_given C.has_got C.was_read C.count result (Before (record {
+              last = last;
+              number = number;
+              given = given;
+              got = got;
+              reads = reads;
+              failures = C.count link;
+            }) ∷ []) }
         ensures number { result.number ≡ number }
     {
         ClientSide {

@@ -30,7 +30,14 @@ impl<'a, C: Link, O: Origins, K: Clock> Connection<'a, C, O, K> {
     /// that the cache was told before, else that returns `UnknownNumber`.
     pub fn new(alloc: Global, number: u64, client: C, origins: &'a O, clock: &'a K) -> Self
         ensures tells { (last : Option ℕ) (given got : List ℕ) (reads : ℕ) → C.has_given client given → C.has_got client got → C.was_read client reads
-            → Tells C.has_given C.has_got C.was_read C.count result.peers.client (Before last number given got reads (C.count client) ∷ []) }
+            → Tells C.has_given C.has_got C.was_read C.count result.peers.client (Before (record {
+              last = last;
+              number = number;
+              given = given;
+              got = got;
+              reads = reads;
+              failures = C.count client;
+            }) ∷ []) }
         ensures number { result.peers.client.number ≡ number }
         ensures opened { result.opened ≡ false }
         ensures kept { (log : List Move) → NoneOpen log → AreKept O.Link.has_given O.Link.has_got result.peers.forwards.links log }

@@ -18,3 +18,4 @@ pub mod GivenLemmas
 pub mod CutLemmas
 pub mod RunLemmas
 pub mod OnceLemmas
+pub mod ChunkLemmas

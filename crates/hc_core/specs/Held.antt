@@ -8,11 +8,11 @@ use Rattle.hc_service.specs.declared.open.OpenForward.{OpenForward}
 use Rattle.hc_service.specs.Reactions.{is_for_store}
 use Rattle.hc_service.specs.State.{Awaited, Connection, State, exchange_for}
 
--- how many octets are unread of that connection, none where it isn't open
+-- how many octets are unread of that connection, zero where it isn't open
 abbrev pub held_of_client : ℕ → State → ℕ
 held_of_client c s = count_of (unwrap_or (option_map (λ (k : Connection). k.unread) (get s.connections c)) [])
 
--- how many octets have come on that forward, none where it isn't open
+-- how many octets have come on that forward, zero where it isn't open
 abbrev pub held_of_forward : ℕ → State → ℕ
 held_of_forward f s = count_of (unwrap_or (option_map (λ (a : Awaited). a.received) (get s.forwards f)) [])
 

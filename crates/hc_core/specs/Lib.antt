@@ -7,7 +7,7 @@ pub mod Happenings
 pub mod Steps
 pub mod Settings
 pub mod Held
-pub mod Names
+pub mod RunFaults
 pub mod Results
 pub mod Runs
 pub mod Recordings

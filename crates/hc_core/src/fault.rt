@@ -2,7 +2,7 @@
 
 ghost use Rattle.std.specs.Prelude.{◌≡◌};
 ghost use Rattle.hc_core.specs.declared.fault.RunFault.TheVariants.{Memory};
-ghost use Rattle.hc_core.specs.Names.{run_fault};
+ghost use Rattle.hc_core.specs.RunFaults.{run_fault};
 
 use hc_service::CoreFault;
 use std::alloc::{AllocError, AllocFailed};
@@ -17,31 +17,6 @@ pub enum RunFault {
     /// No cache can have such settings.
     #[error("no cache has such settings")]
     Settings,
-}
-
-impl RunFault {
-    ghost use Rattle.std.specs.Prelude.{◌≡◌};
-    ghost use Rattle.hc_core.specs.Names.{fault_number, fault_name};
-
-    /// The number that stands for the fault in reports.
-    pub fn number(&self) -> u32
-        ensures { result ≡ fault_number self.now }
-    {
-        match self {
-            RunFault::Memory => 1,
-            RunFault::Settings => 2,
-        }
-    }
-
-    /// The name that stands for the fault in reports.
-    pub fn name(&self) -> &'static str
-        ensures { result.now ≡ fault_name self.now }
-    {
-        match self {
-            RunFault::Memory => "Memory",
-            RunFault::Settings => "Settings",
-        }
-    }
 }
 
 impl From<AllocError> for RunFault {

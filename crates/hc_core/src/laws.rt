@@ -1,7 +1,10 @@
 //! What no cache can do otherwise. Each law holds of the definitions, and the functions that bear them do nothing.
 
-ghost use Rattle.std.specs.Prelude.{◌≡◌, ℕ, true, false, Some, None};
+ghost use Rattle.std.specs.Prelude.{◌≡◌, ℕ, true, false, List, ◌∷◌, ◌++◌, Some, None};
+ghost use Rattle.std.specs.Char.{is_ascii_hexdigit};
 ghost use Rattle.std.specs.FinMap.{get};
+ghost use Rattle.std.specs.List.{AllPass};
+ghost use Rattle.hc_framing.specs.ChunkLines.{CanBecomeChunkLine, NeverHasChunkLine};
 ghost use Rattle.hc_head.specs.declared.head.Target.{Target};
 ghost use Rattle.hc_update.specs.declared.stored.Stored.{Stored};
 ghost use Rattle.hc_incoming.specs.Requests.{HasRequest};
@@ -38,4 +41,12 @@ pub fn what_takes_no_memory_is_put()
 pub fn no_request_is_held_back()
     ensures { (s : State) (h : History) (c : ℕ) (connection : Connection) → Agrees s h
         → get s.connections c ≡ Some connection → connection.exchange ≡ None → ¬ (HasRequest connection.unread) }
+{}
+
+/// Chunk lines are read strictly (RFC 9112 section 7.1): octets that begin with a plus sign, or with digits and a bare
+/// line feed, never have one, whatever follows; and where none can come none is awaited.
+pub fn chunk_lines_are_read_strictly()
+    ensures plus { (octets : List ℕ) → NeverHasChunkLine (43 ∷ octets) }
+    ensures line_feed { (digits octets : List ℕ) → AllPass is_ascii_hexdigit digits → NeverHasChunkLine (digits ++ 10 ∷ octets) }
+    ensures awaited { (octets : List ℕ) → NeverHasChunkLine octets → ¬ (CanBecomeChunkLine octets) }
 {}

@@ -26,7 +26,10 @@ mod serving;
 
 pub use fault::RunFault;
 pub use hc_service::{Action, CoreFault, CoreSettings, Event, Happening, StepFault};
-pub use laws::{no_request_is_held_back, one_reaction, what_takes_no_memory_is_put};
+pub use laws::{
+    chunk_lines_are_read_strictly, no_request_is_held_back, one_reaction,
+    what_takes_no_memory_is_put,
+};
 pub use machine::Core;
 pub use outcome::{Run, StepResult};
 pub use running::run;

@@ -14,7 +14,7 @@ use Rattle.hc_crowd.specs.Crowds.{AreUpTo}
 -- moments up to one are up to a later one
 pub up_to : (m n : ℕ) (log : List Move) → m ≤ n → AreUpTo m log → AreUpTo n log
 up_to m n [] less all = tt
-up_to m n (Before last number given got reads failures ∷ log) less all = up_to m n log less all
+up_to m n (Before beginning ∷ log) less all = up_to m n log less all
 up_to m n (Heard occurrence ∷ log) less all = (omega (arith, less, all.0), all.1)
 up_to m n (Sent to octets ∷ log) less all = up_to m n log less all
 up_to m n (Closed link ∷ log) less all = up_to m n log less all

@@ -14,7 +14,7 @@ use Rattle.hc_crowd.specs.declared.limits.Limits.{Limits}
 -- each moment is at most that of what was heard next, and the last is at most this one
 abbrev pub AreUpTo : ℕ → List Move → Type 0
 AreUpTo latest [] = Unit {0}
-AreUpTo latest (Before last number given got reads failures ∷ log) = AreUpTo latest log
+AreUpTo latest (Before beginning ∷ log) = AreUpTo latest log
 AreUpTo latest (Heard occurrence ∷ log) = (occurrence.event.moment ≤ latest) × AreUpTo occurrence.event.moment log
 AreUpTo latest (Sent to octets ∷ log) = AreUpTo latest log
 AreUpTo latest (Closed link ∷ log) = AreUpTo latest log

@@ -107,7 +107,16 @@ fn fault_of_end(served: &Served, transcript: &[u8]) -> Option<&'static str> {
         Ok(()) if !served.idle => Some("left open in the cache"),
         Ok(()) => None,
         Err(DriveFault::Recorder) => None,
-        Err(fault) => Some(fault.name()),
+        Err(fault) => Some(name_of(fault)),
+    }
+}
+
+/// The name of what went wrong while links were served.
+pub(crate) fn name_of(fault: DriveFault) -> &'static str {
+    match fault {
+        DriveFault::Client => "Client",
+        DriveFault::Recorder => "Recorder",
+        DriveFault::Core(_) => "Core",
     }
 }
 

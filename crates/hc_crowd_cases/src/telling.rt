@@ -1,6 +1,6 @@
 //! What is told of a schedule.
 
-use crate::comparing::compare;
+use crate::comparing::{compare, name_of};
 use crate::playing::{Played, Served};
 use crate::replies::say_replies_in;
 use hc_cases::Unanswered;
@@ -203,7 +203,7 @@ fn say_end(alloc: Global, played: &mut Played, out: &mut String) -> Result<(), U
 }
 
 fn say_served(served: &Served, tick: u64, out: &mut String) -> Result<(), AllocError> {
-    out.push_str(name_of(served.result))?;
+    out.push_str(word_of(served.result))?;
     write!(out, " at {tick}")?;
     if served.behind {
         out.push_str(", clock behind")?;
@@ -211,11 +211,11 @@ fn say_served(served: &Served, tick: u64, out: &mut String) -> Result<(), AllocE
     out.push_str(served.counts.as_str())
 }
 
-fn name_of(ended: Result<(), DriveFault>) -> &'static str {
+fn word_of(ended: Result<(), DriveFault>) -> &'static str {
     match ended {
         Ok(()) => "served",
         Err(DriveFault::Recorder) => "recorder failed",
-        Err(fault) => fault.name(),
+        Err(fault) => name_of(fault),
     }
 }
 

@@ -28,7 +28,7 @@ use Rattle.hc_core.specs.Steps.{Cache, StandsFor}
 use Rattle.hc_order.specs.declared.occurrence.Occurrence.{Occurrence}
 use Rattle.hc_order.specs.declared.receiver.Receiver.TheVariants.{Client, Origin}
 use Rattle.hc_order.specs.Mirrors.{Mirrors, last_opened}
-use Rattle.hc_order.specs.Log.{Move, carried}
+use Rattle.hc_order.specs.Log.{Beginning, Move, carried}
 use Rattle.hc_order.specs.Log.Move.{Before, Closed, Heard, Sent}
 use Rattle.hc_order.specs.Passed.{AreServed, IsUsual, events_of, passed}
 use Rattle.hc_order.specs.Resting.{IsAtRest}
@@ -43,9 +43,9 @@ use Rattle.hc_drive.specs.declared.fault.DriveFault.{DriveFault}
 use Rattle.hc_drive.specs.declared.fault.DriveFault.TheVariants as drive
 use Rattle.hc_drive.specs.declared.fault.ServingFault.{ServingFault}
 use Rattle.hc_drive.specs.declared.fault.ServingFault.TheVariants as fault
-use Rattle.hc_drive.specs.Clients.{BreaksBefore, BreaksNext, ComeSince, Connections, CountsServing, EndsBefore, GivesNext, GivesServing, GivesTranscript, GivesUpLateBehind, HoldsBeginning, HoldsTranscript, IsConnection, IsExpected, IsExpectedOfNew, IsOwn, IsUsualBehind, KeepsIdle, LeadsToNext, LeftSince, ServesNext, Serving, log_of, number_before, unserved}
+use Rattle.hc_drive.specs.Clients.{BreaksBefore, BreaksNext, ComeSince, Connections, CountsServing, EndsBefore, GivesNext, GivesServing, GivesTranscript, GivesUpLateBehind, HoldsBeginning, HoldsTranscript, IsConnection, IsExpected, IsExpectedOfNew, IsOwn, IsUsualBehind, KeepsIdle, LeadsToNext, LeftSince, ServesNext, Serving, beginning_of, log_of, number_before, unserved}
 use Rattle.hc_drive.specs.Drives.{AreRounds, BreakOff, BreaksAsUsual, EndStands, GivesUp, GivesUpLate, IsLeftIdle, Leads, LeadsTo, answers_by, occurrences_by, texts_given}
-use Rattle.hc_drive.specs.Rounds.{Break, IsToldBy, StopsAt}
+use Rattle.hc_drive.specs.Rounds.{Break, IsToldBy, StopsAt, stage}
 use Rattle.hc_drive.specs.Rounds.Break.{AtAnswer, BeforeEvent, Carrying}
 use Rattle.hc_drive.proofs.DriveLemmas.{RunsAreCounted, events_append, fewer, front_at, given_append, never_none, served_append, texts_given_append}
 
@@ -63,12 +63,11 @@ abbrev pub NewCacheAgrees : Type 0
 NewCacheAgrees = (settings : CoreSettings) (options : CoreOptions) → Agrees (new_state_with settings options) nothing_yet
 
 abbrev pub NewCacheMirrors : Type 0
-NewCacheMirrors = (options : CoreOptions) (settings : CoreSettings) (number : ℕ) (given got : List ℕ) (reads failures : ℕ)
-    → Mirrors options.connections (new_state_with settings options) (Before None number given got reads failures ∷ [])
+NewCacheMirrors = (options : CoreOptions) (settings : CoreSettings) (beginning : Beginning) → beginning.last ≡ None
+    → Mirrors options.connections (new_state_with settings options) (Before beginning ∷ [])
 
 abbrev pub MirrorsAtRest : Type 0
-MirrorsAtRest = (room : ℕ) (s : State) (last : Option ℕ) (number : ℕ) (given got : List ℕ) (reads failures : ℕ)
-    → Mirrors room s (Before last number given got reads failures ∷ []) → IsAtRest s
+MirrorsAtRest = (room : ℕ) (s : State) (beginning : Beginning) → Mirrors room s (Before beginning ∷ []) → IsAtRest s
 
 -- ---- what more moves leave
 
@@ -105,7 +104,7 @@ failures_passed (occurrence ∷ occurrences) (Err step ∷ results) log = failur
 -- what a clock may tell another may, too
 moments_still : (P Q : ℕ → Type 0) → ((moment : ℕ) → P moment → Q moment) → (log : List Move) → AreMoments P log → AreMoments Q log
 moments_still P Q may [] moments = tt
-moments_still P Q may (Before last number given got reads failures ∷ log) moments = moments_still P Q may log moments
+moments_still P Q may (Before beginning ∷ log) moments = moments_still P Q may log moments
 moments_still P Q may (Heard occurrence ∷ log) moments = (may occurrence.event.moment moments.0, moments_still P Q may log moments.1)
 moments_still P Q may (Sent to octets ∷ log) moments = moments_still P Q may log moments
 moments_still P Q may (Closed link ∷ log) moments = moments_still P Q may log moments
@@ -128,10 +127,10 @@ module _ {C L : Type 0} (client_gave client_got : C → List ℕ → Type 0) (wa
   -- nothing has passed at a fresh link
   pub nothing_passed : (n : ℕ) (link : C) (opened : Bool) (side : ClientSide C) (links : BTreeMap ℕ (Option L)) → IsFresh client_gave client_got was_read count link
       → ((last : Option ℕ) (given got : List ℕ) (reads : ℕ) → client_gave link given → client_got link got → was_read link reads
-      → Tells client_gave client_got was_read count side (Before last n given got reads (count link) ∷ []))
+      → Tells client_gave client_got was_read count side (Before (record { last = last; number = n; given = given; got = got; reads = reads; failures = count link }) ∷ []))
       → opened ≡ false → ((log : List Move) → NoneOpen log → AreKept origin_gave origin_got links log) → HasPassedAt opened side links (unserved n)
   nothing_passed n link opened side links fresh tells unopened kept = (
-    subst (λ (failures : ℕ). Tells client_gave client_got was_read count side (Before (number_before n) n [] [] 0 failures ∷ [])) fresh.3 (tells (number_before n) [] [] 0 fresh.0 fresh.1 fresh.2),
+    subst (λ (failures : ℕ). Tells client_gave client_got was_read count side (Before (record { last = number_before n; number = n; given = []; got = []; reads = 0; failures = failures }) ∷ [])) fresh.3 (tells (number_before n) [] [] 0 fresh.0 fresh.1 fresh.2),
     subst (λ (o : Bool). Opens o side.number (unserved n)) (sym unopened) (refl, ap (λ (k : ℕ). is_later k (number_before n)) (sym (tells (number_before n) [] [] 0 fresh.0 fresh.1 fresh.2).own) ∙ later_before n),
     tt,
     kept (unserved n) (λ f. refl),
@@ -196,7 +195,7 @@ module _ (T T' : List Move → Type 0) (H : List ℕ → Type 0) (still : (log :
   gives_up_still break why rests new rounds (inr (before, is, inl all)) = inr (before, is, inl all)
   gives_up_still break why rests new rounds (inr (before, is, inr (busy, rest))) = inr (before, is, inr (busy, tt))
 
-  breaks_still : (why : DriveFault) (rests : Type 0) (old new : Cache) (log : List Move) (text : List ℕ) → BreakOff 1 why T H rests old new log text → BreakOff 1 why T' H (Unit {0}) old new log text
+  breaks_still : (why : DriveFault) (rests : Type 0) (old new : Cache) (log : List Move) (text : List ℕ) → BreakOff 1 why T H rests (stage old log text) new → BreakOff 1 why T' H (Unit {0}) (stage old log text) new
   breaks_still why rests old new log text b = record {
     occurrences = b.occurrences;
     results = b.results;
@@ -219,18 +218,18 @@ module _ (may : ℕ → Type 0) (H : List ℕ → Type 0) (c n : ℕ) where
       of_passed c occurrences results (unserved n) (of_carried c stops.done (Heard occurrence ∷ log_of n occurrences results) stops.told.0).1
 
 pub broken_off : (may : ℕ → Type 0) (T : List Move → Type 0) (H : List ℕ → Type 0) (c n : ℕ) → ((log : List Move) → T log → IsOwn may c log)
-    → (why : DriveFault) (rests : Type 0) (old new : Cache) (text : List ℕ) → BreakOff 1 why T H rests old new (unserved n) text → BreakOff 1 why (IsOwn may n) H (Unit {0}) old new (unserved n) text
+    → (why : DriveFault) (rests : Type 0) (old new : Cache) (text : List ℕ) → BreakOff 1 why T H rests (stage old (unserved n) text) new → BreakOff 1 why (IsOwn may n) H (Unit {0}) (stage old (unserved n) text) new
 broken_off may T H c n own why rests old new text b =
     let broken = breaks_still T (IsOwn may c) H own why rests old new (unserved n) text b in
     let is = number_at may H c n broken.break broken.occurrences broken.results (text ++ texts_given broken.results) broken.stops in
-    subst (λ (m : ℕ). BreakOff 1 why (IsOwn may m) H (Unit {0}) old new (unserved n) text) (sym is) broken
+    subst (λ (m : ℕ). BreakOff 1 why (IsOwn may m) H (Unit {0}) (stage old (unserved n) text) new) (sym is) broken
 
 -- ---- what is open between connections
 
 -- what was opened first, and nothing else, was opened last
 last_is : (n : ℕ) (log : List Move) → first_in log ≡ Some (ClientOpened n) → AreOf n log → last_opened log ≡ Some n
 last_is n [] first own = absurd (cc)
-last_is n (Before last number given got reads failures ∷ log) first own = absurd (cc)
+last_is n (Before beginning ∷ log) first own = absurd (cc)
 last_is n (Heard occurrence ∷ log) first own = by occurrence.event.of (first_in log) (λ earlier. last_is n log earlier own.1) first own.0
   where
     by : (of : Happening) (o : Option Happening) → (o ≡ Some (ClientOpened n) → last_opened log ≡ Some n) → earlier_or o of ≡ Some (ClientOpened n) → IsOf n of
@@ -335,8 +334,8 @@ module _ {C L : Type 0} (client_gave client_got : C → List ℕ → Type 0) (wa
   PassesAt log = HasPassed client_gave client_got was_read count origin_gave origin_got may_tell opened side links log
 
   -- it was served, and its link was handed back
-  pub serves_next : AreRounds 1 PassesAt H old new (unserved n) text → IsLeftIdle new → opened ≡ true → (link : C) → link ≡ side.link → ((n misses : ℕ) → MC n misses → AC n misses)
-      → HandsBack client_gave client_got count link ML AL → ServesNext may n (ComeSince BC AC) (LeftSince BL AL) H old new text
+  pub serves_next : AreRounds 1 PassesAt H (stage old (unserved n) text) new → IsLeftIdle new → opened ≡ true → (link : C) → link ≡ side.link → ((n misses : ℕ) → MC n misses → AC n misses)
+      → HandsBack client_gave client_got count link ML AL → ServesNext may (ComeSince BC AC) (LeftSince BL AL) H n old new text
   serves_next rounds idle was_opened link same stay back =
       let is = is_connection client_gave client_got was_read count origin_gave origin_got may_tell n side opened links rounds.occurrences rounds.results rounds.told may still was_opened in
       let hands = subst (λ (link : C). HandsBack client_gave client_got count link ML AL) same back in record {
@@ -362,7 +361,7 @@ module _ {C L : Type 0} (client_gave client_got : C → List ℕ → Type 0) (wa
       }
 
   -- it broke off
-  pub breaks_next : (why : DriveFault) (rests : Type 0) → BreakOff 1 why PassesAt H rests old new (unserved n) text → BreaksNext may why n (ComeSince BC MC) (LeftSince BL ML) H old new text
+  pub breaks_next : (why : DriveFault) (rests : Type 0) → BreakOff 1 why PassesAt H rests (stage old (unserved n) text) new → BreaksNext may (ComeSince BC MC) (LeftSince BL ML) H why n old new text
   breaks_next why rests broken = record {
     come_one = one_came BC MC MC comes (λ n misses had. had);
     left_none = none_left BL ML stays;
@@ -383,7 +382,7 @@ none_served may cache = record {
   mirrors = λ room settings s h good stands agrees few m. record { state = s; stands = stands; mirrors = m; later = h; agrees = agrees; counted = omega arith };
 }
 
-pub serving_begins : (may : ℕ → Type 0) (B : ℕ → ℕ → Type 0) (L : List ServedLink → Type 0) (H : List ℕ → Type 0) (cache : Cache) (text : List ℕ) → H text → Serving may 0 0 (ComeSince B B) (LeftSince L L) H cache cache text
+pub serving_begins : (may : ℕ → Type 0) (B : ℕ → ℕ → Type 0) (L : List ServedLink → Type 0) (H : List ℕ → Type 0) (cache : Cache) (text : List ℕ) → H text → Serving may (ComeSince B B) (LeftSince L L) H 0 0 cache cache text
 serving_begins may B L H cache text held = record {
   all = none_served may cache;
   come_all = none_came B B (λ n misses had. had);
@@ -441,7 +440,7 @@ is_expected why break new rounds told usual late = by break told usual late
         apart e = cc
 
 module _ (begins : NewCacheAgrees) (new_mirrors : NewCacheMirrors) (at_rest : MirrorsAtRest) (may : ℕ → Type 0) (old mid new : Cache) (n : ℕ) (why : DriveFault) (T : List Move → Type 0) (H : List ℕ → Type 0)
-    (text : List ℕ) (all : Connections may n old mid) (b : BreakOff 1 why T H (Unit {0}) mid new (unserved (1 + n)) text) where
+    (text : List ℕ) (all : Connections may n old mid) (b : BreakOff 1 why T H (Unit {0}) (stage mid (unserved (1 + n)) text) new) where
   abbrev given_behind : List StepResult
   given_behind = b.results ++ answers_by b.break
 
@@ -457,11 +456,11 @@ module _ (begins : NewCacheAgrees) (new_mirrors : NewCacheMirrors) (at_rest : Mi
       let there = subst (λ (m : ℕ). Mirrors room led.state (unserved m)) (one_is n) led.mirrors in
       b.late room settings led.state led.later good led.stands led.agrees
       (fewer b.results (answers_by b.break) led.state.numbers.records (further_few all.results given_behind s.numbers.records led.state.numbers.records led.counted few))
-      (at_rest room led.state (number_before (1 + n)) (1 + n) [] [] 0 0 there) there refl
+      (at_rest room led.state (beginning_of (1 + n)) there) there refl
 
   expected_of_new : IsExpectedOfNew old (all.results ++ given_behind) b.break why (length b.occurrences)
   expected_of_new settings good is_new few =
-      let m = new_mirrors usual_options settings 1 [] [] 0 0 in
+      let m = new_mirrors usual_options settings (beginning_of 1) refl in
       let agrees = begins settings usual_options in
       let in_range = still_few (length (records_given (all.results ++ given_behind))) few in
       is_expected why b.break new (length b.occurrences) b.told_by
@@ -516,8 +515,8 @@ module _ (on : RunsGoOn) (counted : RunsAreCounted) where
   }
 
   module _ (may : ℕ → Type 0) (BC MC AC : ℕ → ℕ → Type 0) (BL ML AL : List ServedLink → Type 0) (MH AH : List ℕ → Type 0) (old mid new : Cache) (text : List ℕ) where
-    goes_on_to : (n : ℕ) → (serving : Serving may n 0 (ComeSince BC MC) (LeftSince BL ML) MH old mid text)
-        → ServesNext may (suc n) (ComeSince MC AC) (LeftSince ML AL) AH mid new (text ++ texts_given serving.all.results) → Serving may (suc n) 0 (ComeSince BC AC) (LeftSince BL AL) AH old new text
+    goes_on_to : (n : ℕ) → (serving : Serving may (ComeSince BC MC) (LeftSince BL ML) MH n 0 old mid text)
+        → ServesNext may (ComeSince MC AC) (LeftSince ML AL) AH (suc n) mid new (text ++ texts_given serving.all.results) → Serving may (ComeSince BC AC) (LeftSince BL AL) AH (suc n) 0 old new text
     goes_on_to n serving next = record {
       all = one_more may n old mid new next.occurrences next.results next.link serving.all next.is_connection next.served next.leads (next.mirrors (omega arith));
       come_all = subst (λ (m : ℕ). ComeSince BC AC m 0) (sym (one_is n)) (more_came BC MC AC n 0 1 0 serving.come_all next.come_one);
@@ -526,18 +525,18 @@ module _ (on : RunsGoOn) (counted : RunsAreCounted) where
           ∙ ap (λ (o : List ℕ). text ++ o) (sym (texts_given_append serving.all.results next.results))) next.held;
     }
 
-    pub goes_on : (n k m : ℕ) → m ≡ suc n → k ≡ suc n → (serving : Serving may n 0 (ComeSince BC MC) (LeftSince BL ML) MH old mid text)
-        → ServesNext may k (ComeSince MC AC) (LeftSince ML AL) AH mid new (text ++ texts_given serving.all.results) → Serving may m 0 (ComeSince BC AC) (LeftSince BL AL) AH old new text
+    pub goes_on : (n k m : ℕ) → m ≡ suc n → k ≡ suc n → (serving : Serving may (ComeSince BC MC) (LeftSince BL ML) MH n 0 old mid text)
+        → ServesNext may (ComeSince MC AC) (LeftSince ML AL) AH k mid new (text ++ texts_given serving.all.results) → Serving may (ComeSince BC AC) (LeftSince BL AL) AH m 0 old new text
     goes_on n k m is_next is_number serving next =
-        subst (λ (m : ℕ). Serving may m 0 (ComeSince BC AC) (LeftSince BL AL) AH old new text) (sym is_next)
-        (goes_on_to n serving (subst (λ (k : ℕ). ServesNext may k (ComeSince MC AC) (LeftSince ML AL) AH mid new (text ++ texts_given serving.all.results)) is_number next))
+        subst (λ (m : ℕ). Serving may (ComeSince BC AC) (LeftSince BL AL) AH m 0 old new text) (sym is_next)
+        (goes_on_to n serving (subst (λ (k : ℕ). ServesNext may (ComeSince MC AC) (LeftSince ML AL) AH k mid new (text ++ texts_given serving.all.results)) is_number next))
 
     -- no further client came
-    pub ended_before : (n count : ℕ) → n < count → (serving : Serving may n 0 (ComeSince BC MC) (LeftSince BL ML) MH old mid text)
+    pub ended_before : (n count : ℕ) → n < count → (serving : Serving may (ComeSince BC MC) (LeftSince BL ML) MH n 0 old mid text)
         → (new ≡ mid) × ComeSince MC AC 0 1 × LeftSince ML AL [] × AH (text ++ texts_given serving.all.results)
-        → EndsBefore may count (ComeSince BC AC) (LeftSince BL AL) AH old new text
+        → EndsBefore may (ComeSince BC AC) (LeftSince BL AL) AH count old new text
     ended_before n count less serving next =
-        subst (λ (cache : Cache). EndsBefore may count (ComeSince BC AC) (LeftSince BL AL) AH old cache text) (sym next.0)
+        subst (λ (cache : Cache). EndsBefore may (ComeSince BC AC) (LeftSince BL AL) AH count old cache text) (sym next.0)
         (record {
           n = n;
           fewer = less;
@@ -550,11 +549,11 @@ module _ (on : RunsGoOn) (counted : RunsAreCounted) where
         })
 
     -- the next one broke off
-    pub broke_before : NewCacheAgrees → NewCacheMirrors → MirrorsAtRest → (why : DriveFault) (n k count : ℕ) → n < count → k ≡ suc n → (serving : Serving may n 0 (ComeSince BC MC) (LeftSince BL ML) MH old mid text)
-        → BreaksNext may why k (ComeSince MC AC) (LeftSince ML AL) AH mid new (text ++ texts_given serving.all.results) → BreaksBefore may why count (ComeSince BC AC) (LeftSince BL AL) AH old new text
+    pub broke_before : NewCacheAgrees → NewCacheMirrors → MirrorsAtRest → (why : DriveFault) (n k count : ℕ) → n < count → k ≡ suc n → (serving : Serving may (ComeSince BC MC) (LeftSince BL ML) MH n 0 old mid text)
+        → BreaksNext may (ComeSince MC AC) (LeftSince ML AL) AH why k mid new (text ++ texts_given serving.all.results) → BreaksBefore may (ComeSince BC AC) (LeftSince BL AL) AH why count old new text
     broke_before begins new_mirrors at_rest why n k count less is_number serving next =
-        let b : BreakOff 1 why (IsOwn may (1 + n)) AH (Unit {0}) mid new (unserved (1 + n)) (text ++ texts_given serving.all.results) =
-        subst (λ (k : ℕ). BreakOff 1 why (IsOwn may k) AH (Unit {0}) mid new (unserved k) (text ++ texts_given serving.all.results)) (is_number ∙ one_is n) next.broken in record {
+        let b : BreakOff 1 why (IsOwn may (1 + n)) AH (Unit {0}) (stage mid (unserved (1 + n)) (text ++ texts_given serving.all.results)) new =
+        subst (λ (k : ℕ). BreakOff 1 why (IsOwn may k) AH (Unit {0}) (stage mid (unserved k) (text ++ texts_given serving.all.results)) new) (is_number ∙ one_is n) next.broken in record {
           n = n;
           fewer = less;
           between = mid;
@@ -568,9 +567,9 @@ module _ (on : RunsGoOn) (counted : RunsAreCounted) where
         }
 
     -- any fault of the next one
-    pub at_fault : NewCacheAgrees → NewCacheMirrors → MirrorsAtRest → (T : Type 0) (why : ServingFault) (n k count : ℕ) → n < count → k ≡ suc n → (serving : Serving may n 0 (ComeSince BC MC) (LeftSince BL ML) MH old mid text)
-        → GivesNext {T = T} may (ComeSince MC AC) (LeftSince ML AL) AH (Err why) k mid new (text ++ texts_given serving.all.results)
-        → GivesServing {T = T} may (ComeSince BC AC) (LeftSince BL AL) AH (Err why) count old new text
+    pub at_fault : NewCacheAgrees → NewCacheMirrors → MirrorsAtRest → (T : Type 0) (why : ServingFault) (n k count : ℕ) → n < count → k ≡ suc n → (serving : Serving may (ComeSince BC MC) (LeftSince BL ML) MH n 0 old mid text)
+        → GivesNext may (ComeSince MC AC) (LeftSince ML AL) AH {T = T} (Err why) k mid new (text ++ texts_given serving.all.results)
+        → GivesServing may (ComeSince BC AC) (LeftSince BL AL) AH {T = T} (Err why) count old new text
     at_fault begins new_mirrors at_rest T fault.Clients n k count less is_number serving next = ended_before n count less serving next
     at_fault begins new_mirrors at_rest T fault.Recorder n k count less is_number serving next = broke_before begins new_mirrors at_rest drive.Recorder n k count less is_number serving next
     at_fault begins new_mirrors at_rest T (fault.Core step) n k count less is_number serving next = broke_before begins new_mirrors at_rest (drive.Core step) n k count less is_number serving next
@@ -587,14 +586,14 @@ module _ (on : RunsGoOn) (counted : RunsAreCounted) where
     right new events results leads few =
         let led = leads settings (new_state settings) nothing_yet good is_new (begins settings usual_options) (still_few (length (records_given results)) few) in judged settings usual_options events results (records_given results) led.end led.runs
 
-    pub holds_all : (may : ℕ → Type 0) (n misses : ℕ) (come : ℕ → ℕ → Type 0) (left : List ServedLink → Type 0) (H : List ℕ → Type 0) (new : Cache) → Serving may n misses come left H old new (opening recorded_format) → HoldsTranscript H
+    pub holds_all : (may : ℕ → Type 0) (n misses : ℕ) (come : ℕ → ℕ → Type 0) (left : List ServedLink → Type 0) (H : List ℕ → Type 0) (new : Cache) → Serving may come left H n misses old new (opening recorded_format) → HoldsTranscript H
     holds_all may n misses come left H new serving = record {
       records = records_given serving.all.results;
       held = serving.held;
       right = right new (events_of serving.all.occurrences) serving.all.results serving.all.leads;
     }
 
-    pub holds_front : (may : ℕ → Type 0) (why : DriveFault) (count : ℕ) (come : ℕ → ℕ → Type 0) (left : List ServedLink → Type 0) (H : List ℕ → Type 0) (new : Cache) → BreaksBefore may why count come left H old new (opening recorded_format)
+    pub holds_front : (may : ℕ → Type 0) (why : DriveFault) (count : ℕ) (come : ℕ → ℕ → Type 0) (left : List ServedLink → Type 0) (H : List ℕ → Type 0) (new : Cache) → BreaksBefore may come left H why count old new (opening recorded_format)
         → HoldsBeginning H
     holds_front may why count come left H new breaks =
         let all = breaks.all in

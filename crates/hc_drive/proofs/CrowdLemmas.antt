@@ -28,9 +28,9 @@ use Rattle.hc_links.specs.Batches.{NothingIsOpen}
 use Rattle.hc_links.specs.Links.{IsBeginning}
 use Rattle.hc_drive.specs.declared.fault.DriveFault.{DriveFault}
 use Rattle.hc_drive.specs.declared.fault.DriveFault.TheVariants as fault
-use Rattle.hc_drive.specs.Crowds.{Breaks, DriveStage, EndsBetween, Ends, GivesCrowd, GivesRecording, IsExpectedFrom, IsExpectedOf, IsSafe, Releases, Stays, Telling, stage}
+use Rattle.hc_drive.specs.Crowds.{Breaks, EndsBetween, Ends, GivesCrowd, GivesRecording, IsExpectedFrom, IsExpectedOf, IsSafe, Releases, Stays, Telling}
 use Rattle.hc_drive.specs.Drives.{BreaksAsUsual, IsUsualFrom, Leads, answers_by, most_rounds, occurrences_by, texts_given}
-use Rattle.hc_drive.specs.Rounds.{AnswersBy, Break, IsRound, IsToldBy, MayBreak, StopsAt}
+use Rattle.hc_drive.specs.Rounds.{AnswersBy, Break, DriveStage, IsRound, IsToldBy, MayBreak, StopsAt, stage}
 use Rattle.hc_drive.specs.Rounds.Break.{AtAnswer, BeforeEvent, Carrying}
 use Rattle.hc_drive.proofs.ClientLemmas.{NewCacheAgrees, RunsAreJudgedRight, still_few}
 use Rattle.hc_drive.proofs.DriveLemmas.{AgreementIsReady, Leading, RunsAreCounted, RunsKeepAgreement, SoFar, StepsAreRuns, TurnsAreMirrored, TurnsAreUsual, begins, break_leads, break_orderly, break_usual, ended, front_at, goes_on, texts_given_append}
@@ -211,7 +211,7 @@ module _ {most : ℕ} {was_safe : Type 0} {mid : Telling} {from : DriveStage} {b
 
     module _ (laws : Laws) where
       -- one more round
-      pub round_on : (cache : Cache) → Stays mid new → IsRound most new.tells new.holds between cache log_so_far text_so_far → TurnsSoFar most was_safe new from cache (turns + 1)
+      pub round_on : (cache : Cache) → Stays mid new → IsRound most new.tells new.holds (stage between log_so_far text_so_far) cache → TurnsSoFar most was_safe new from cache (turns + 1)
       round_on cache stays t = record {
         rounds = f.rounds + 1;
         few = omega (arith, f.few);

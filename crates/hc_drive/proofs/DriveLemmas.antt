@@ -36,7 +36,7 @@ use Rattle.hc_drive.specs.declared.fault.DriveFault.TheVariants as fault
 use Rattle.hc_drive.specs.Carrying.{CountsRecorder, texts_in}
 use Rattle.hc_order.specs.Passed.{AreOrderly, AreServed, AreUsual, IsUsual, events_of, passed}
 use Rattle.hc_drive.specs.Drives.{AreRounds, BreakOff, EndStands, GivesDrive, GivesUp, GivesUpLate, IsBusy, IsUsualFrom, Leads, answers_by, most_rounds, occurrences_by, texts_given}
-use Rattle.hc_drive.specs.Rounds.{Answers, AnswersBy, Break, IsRound, IsToldBy, MayBreak, StopsAt}
+use Rattle.hc_drive.specs.Rounds.{Answers, AnswersBy, Break, IsRound, IsToldBy, MayBreak, StopsAt, stage}
 use Rattle.hc_drive.specs.Rounds.Break.{AtAnswer, BeforeEvent, Carrying}
 use Rattle.hc_drive.proofs.CarryLemmas.{texts_append}
 
@@ -245,7 +245,7 @@ module _ (runs : StepsAreRuns) (keeps : RunsKeepAgreement) (is_ready : Agreement
 
   module _ (most : ℕ) (T T' : List Move → Type 0) (H H' : List ℕ → Type 0) (old mid new : Cache) (log : List Move) (text : List ℕ) (rounds : ℕ)
       (f : SoFar most T H old mid log text rounds) where
-    abbrev pub goes_on : IsRound most T' H' mid new (passed f.occurrences f.results log) (text ++ texts_given f.results) → SoFar most T' H' old new log text (rounds + 1)
+    abbrev pub goes_on : IsRound most T' H' (stage mid (passed f.occurrences f.results log) (text ++ texts_given f.results)) new → SoFar most T' H' old new log text (rounds + 1)
     goes_on t = record {
       occurrences = f.occurrences ++ t.occurrence ∷ [];
       results = f.results ++ Ok t.actions ∷ [];
@@ -261,7 +261,7 @@ module _ (runs : StepsAreRuns) (keeps : RunsKeepAgreement) (is_ready : Agreement
           ∙ ap (λ (o : List ℕ). text ++ o) (sym (texts_given_append f.results (Ok t.actions ∷ [])))) t.done.1;
     }
 
-    abbrev pub ended : new ≡ mid → T' (passed f.occurrences f.results log) → H' (text ++ texts_given f.results) → AreRounds most T' H' old new log text
+    abbrev pub ended : new ≡ mid → T' (passed f.occurrences f.results log) → H' (text ++ texts_given f.results) → AreRounds most T' H' (stage old log text) new
     ended same told held = record {
       occurrences = f.occurrences;
       results = f.results;
@@ -317,7 +317,7 @@ module _ (runs : StepsAreRuns) (keeps : RunsKeepAgreement) (is_ready : Agreement
 
     pub broke_off : (rests : Type 0) (why : DriveFault) (break : Break) → IsToldBy break why ⊎ GivesUp break why new rests (length f.occurrences) → AnswersBy break mid new
         → GivesUpLate break why (length f.occurrences) → StopsAt break T' H' (passed f.occurrences f.results log) (text ++ texts_given f.results)
-        → MayBreak most break (passed f.occurrences f.results log) → BreakOff most why T' H' rests old new log text
+        → MayBreak most break (passed f.occurrences f.results log) → BreakOff most why T' H' rests (stage old log text) new
     broke_off rests why break told answers late stops may = record {
       occurrences = f.occurrences;
       results = f.results;
@@ -368,21 +368,21 @@ never_first (Some first) of none = cc
 -- where nothing has happened no connection was opened, and no client has ended
 none_opened : (log : List Move) → first_in log ≡ None → opened_in log ≡ 0
 none_opened [] none = refl
-none_opened (Before last number given got reads failures ∷ log) none = refl
+none_opened (Before beginning ∷ log) none = refl
 none_opened (Heard occurrence ∷ log) none = absurd (never_first (first_in log) occurrence.event.of none)
 none_opened (Sent to octets ∷ log) none = none_opened log none
 none_opened (Closed link ∷ log) none = none_opened log none
 
 none_ended : (c : ℕ) (log : List Move) → first_in log ≡ None → is_ended_in c log ≡ false
 none_ended c [] none = refl
-none_ended c (Before last number given got reads failures ∷ log) none = refl
+none_ended c (Before beginning ∷ log) none = refl
 none_ended c (Heard occurrence ∷ log) none = absurd (never_first (first_in log) occurrence.event.of none)
 none_ended c (Sent to octets ∷ log) none = none_ended c log none
 none_ended c (Closed link ∷ log) none = none_ended c log none
 
 none_closed : (c : ℕ) (log : List Move) → closed_in log ≡ 0 → is_closed_in c log ≡ false
 none_closed c [] none = refl
-none_closed c (Before last number given got reads failures ∷ log) none = refl
+none_closed c (Before beginning ∷ log) none = refl
 none_closed c (Heard occurrence ∷ log) none = none_closed c log none
 none_closed c (Sent to octets ∷ log) none = none_closed c log none
 none_closed c (Closed (Client d) ∷ log) none = absurd (omega (arith, none))
@@ -403,7 +403,7 @@ RestsAgain T c log = (room : ℕ) (settings : CoreSettings) (occurrences : List 
     → Mirrors room other (passed occurrences results log) → T (passed occurrences results log) → IsAtRest other
 
 module _ (mirrored : TurnsAreMirrored) (T : List Move → Type 0) (H : List ℕ → Type 0) (rests : Type 0) (old new : Cache) (log : List Move) (text : List ℕ) (c : ℕ) (again : RestsAgain T c log)
-    (busy : IsBusy new) (rest : rests) (t : AreRounds 1 T H old new log text) where
+    (busy : IsBusy new) (rest : rests) (t : AreRounds 1 T H (stage old log text) new) where
   -- rounds that went well don't leave a cache busy that was at rest before
   never_busy : (room : ℕ) (settings : CoreSettings) (s : State) (h : History) → IsAtRest s → Mirrors room s log → first_in log ≡ None → (end : Option State) → EndStands settings end new
       → Runs settings s h (events_of t.occurrences) t.results (records_given t.results) end → ⊥
@@ -415,7 +415,7 @@ module _ (mirrored : TurnsAreMirrored) (T : List Move → Type 0) (H : List ℕ 
       (mirrored room settings t.occurrences t.results s other log steps m t.served) t.told)
 
   -- rounds that went well, and then no more is done, though the cache isn't idle
-  pub as_broken : BreakOff 1 (fault.Core Failed) T H rests old new log text
+  pub as_broken : BreakOff 1 (fault.Core Failed) T H rests (stage old log text) new
   as_broken = record {
     occurrences = t.occurrences;
     results = t.results;
@@ -448,7 +448,7 @@ is_busy idle cache none is settings s stands i = true_false (sym (none_open _ _ 
 
 -- a fault behind which rounds broke off
 pub breaks : (T U : Type 0) (most : ℕ) (why : DriveFault) (tells : List Move → Type 0) (holds : List ℕ → Type 0) (rests : Type 0) (old new : Cache) (log : List Move) (text : List ℕ) (before after : ℕ)
-    → CountsRecorder {T = T} (Err why) before after → BreakOff most why tells holds rests old new log text → GivesDrive {T = U} most tells holds rests (Err why) old new log text
+    → CountsRecorder {T = T} (Err why) before after → BreakOff most why tells holds rests (stage old log text) new → GivesDrive {T = U} most tells holds rests (Err why) (stage old log text) new
 breaks T U most fault.Client tells holds rests old new log text before after counted b = absurd counted
 breaks T U most fault.Recorder tells holds rests old new log text before after counted b = b
 breaks T U most (fault.Core step) tells holds rests old new log text before after counted b = b

@@ -12,12 +12,12 @@ use Rattle.hc_service.specs.State.{State, new_state}
 use Rattle.hc_core.specs.Steps.{Cache, StandsFor}
 use Rattle.hc_order.specs.declared.occurrence.Occurrence.{Occurrence}
 use Rattle.hc_order.specs.Mirrors.{Mirrors}
-use Rattle.hc_drive.specs.Rounds.{Break}
+use Rattle.hc_drive.specs.Rounds.{Break, stage}
 use Rattle.hc_drive.specs.Rounds.Break.{AtAnswer}
 use Rattle.hc_links.specs.Clients.{ServedLink}
 use Rattle.hc_links.specs.Links.{CountsFailure, IsBeginning}
 use Rattle.hc_connection.specs.Moves.{AreMoments, AreOf, HaveReasons, first_in, given_in, sent_in}
-use Rattle.hc_order.specs.Log.{Move}
+use Rattle.hc_order.specs.Log.{Beginning, Move}
 use Rattle.hc_order.specs.Log.Move.{Before}
 use Rattle.hc_drive.specs.declared.fault.DriveFault.{DriveFault}
 use Rattle.hc_drive.specs.declared.fault.DriveFault.TheVariants as drive
@@ -35,8 +35,11 @@ number_before (suc zero) = None
 number_before (suc (suc n)) = Some (suc n)
 
 -- the connection of that number, on a fresh link, before anything has passed
+abbrev pub beginning_of : ℕ → Beginning
+beginning_of n = record { last = number_before n; number = n; given = []; got = []; reads = 0; failures = 0 }
+
 abbrev pub unserved : ℕ → List Move
-unserved n = Before (number_before n) n [] [] 0 0 ∷ []
+unserved n = Before (beginning_of n) ∷ []
 
 -- what passed at it, where the cache was handed what happened and answered so
 abbrev pub log_of : ℕ → List Occurrence → List StepResult → List Move
@@ -109,46 +112,34 @@ LeftSince before after links = (earlier : List ServedLink) → before earlier �
 
 -- ---- the next connection
 
--- it was served: a client came, its link was handed back, and the texts of its records stand behind the text
-pub record ServesNext (may_tell : ℕ → Type 0) (n : ℕ) (come : ℕ → ℕ → Type 0) (left : List ServedLink → Type 0) (holds : List ℕ → Type 0) (old new : Cache) (text : List ℕ) : Type 0 where
-  pub occurrences : List Occurrence
-  pub results : List StepResult
-  pub link : ServedLink
-  pub is_connection : IsConnection may_tell n occurrences results link
-  pub served : AreServed results
-  pub leads : Leads old new (events_of occurrences) results
-  pub mirrors : 0 < n → LeadsToNext n (suc n) old new results
-  pub come_one : come 1 0
-  pub left_one : left (link ∷ [])
-  pub held : holds (text ++ texts_given results)
+module _ (may_tell : ℕ → Type 0) (come : ℕ → ℕ → Type 0) (left : List ServedLink → Type 0) (holds : List ℕ → Type 0) where
+  -- it was served: a client came, its link was handed back, and the texts of its records stand behind the text
+  pub record ServesNext (n : ℕ) (old new : Cache) (text : List ℕ) : Type 0 where
+    pub occurrences : List Occurrence
+    pub results : List StepResult
+    pub link : ServedLink
+    pub is_connection : IsConnection may_tell n occurrences results link
+    pub served : AreServed results
+    pub leads : Leads old new (events_of occurrences) results
+    pub mirrors : 0 < n → LeadsToNext n (suc n) old new results
+    pub come_one : come 1 0
+    pub left_one : left (link ∷ [])
+    pub held : holds (text ++ texts_given results)
 
--- a client came, and its connection broke off; its link wasn't handed back
-pub record BreaksNext (may_tell : ℕ → Type 0) (why : DriveFault) (n : ℕ) (come : ℕ → ℕ → Type 0) (left : List ServedLink → Type 0) (holds : List ℕ → Type 0) (old new : Cache) (text : List ℕ) : Type 0 where
-  pub come_one : come 1 0
-  pub left_none : left []
-  pub broken : BreakOff 1 why (IsOwn may_tell n) holds (Unit {0}) old new (unserved n) text
+  -- a client came, and its connection broke off; its link wasn't handed back
+  pub record BreaksNext (why : DriveFault) (n : ℕ) (old new : Cache) (text : List ℕ) : Type 0 where
+    pub come_one : come 1 0
+    pub left_none : left []
+    pub broken : BreakOff 1 why (IsOwn may_tell n) holds (Unit {0}) (stage old (unserved n) text) new
 
--- it was served, none came, or it broke off
-abbrev pub GivesNext : {T : Type 0} → (ℕ → Type 0) → (ℕ → ℕ → Type 0) → (List ServedLink → Type 0) → (List ℕ → Type 0) → Result T ServingFault → ℕ → Cache → Cache → List ℕ → Type 0
-GivesNext may_tell come left holds (Ok done) n old new text = ServesNext may_tell n come left holds old new text
-GivesNext may_tell come left holds (Err fault.Clients) n old new text = (new ≡ old) × come 0 1 × left [] × holds text
-GivesNext may_tell come left holds (Err fault.Recorder) n old new text = BreaksNext may_tell drive.Recorder n come left holds old new text
-GivesNext may_tell come left holds (Err (fault.Core step)) n old new text = BreaksNext may_tell (drive.Core step) n come left holds old new text
+  -- it was served, none came, or it broke off
+  abbrev pub GivesNext : {T : Type 0} → Result T ServingFault → ℕ → Cache → Cache → List ℕ → Type 0
+  GivesNext (Ok done) n old new text = ServesNext n old new text
+  GivesNext (Err fault.Clients) n old new text = (new ≡ old) × come 0 1 × left [] × holds text
+  GivesNext (Err fault.Recorder) n old new text = BreaksNext drive.Recorder n old new text
+  GivesNext (Err (fault.Core step)) n old new text = BreaksNext (drive.Core step) n old new text
 
--- ---- all that were served
-
--- the connections 1, 2, .., n were: so many clients came, and so often none did; their links were handed back, and the texts of the records stand behind the text
-pub record Serving (may_tell : ℕ → Type 0) (n misses : ℕ) (come : ℕ → ℕ → Type 0) (left : List ServedLink → Type 0) (holds : List ℕ → Type 0) (old new : Cache) (text : List ℕ) : Type 0 where
-  pub all : Connections may_tell n old new
-  pub come_all : come n misses
-  pub left_all : left all.links
-  pub held : holds (text ++ texts_given all.results)
-
--- fewer were, and no further client came
-pub record EndsBefore (may_tell : ℕ → Type 0) (count : ℕ) (come : ℕ → ℕ → Type 0) (left : List ServedLink → Type 0) (holds : List ℕ → Type 0) (old new : Cache) (text : List ℕ) : Type 0 where
-  pub n : ℕ
-  pub fewer : n < count
-  pub serving : Serving may_tell n 1 come left holds old new text
+-- ---- how a break is
 
 -- a break is as usual whatever the cache stood for before all, where that mirrored the log before the first connection and has room for one, as far as records can be numbered
 abbrev pub IsUsualBehind : Cache → List StepResult → Break → Type 0
@@ -176,25 +167,41 @@ abbrev pub IsExpectedOfNew : Cache → List StepResult → Break → DriveFault 
 IsExpectedOfNew old results break why rounds = (settings : CoreSettings) → AreGood settings → StandsFor settings old (new_state settings)
     → length (records_given results) ≤ greatest_number → IsExpected why break rounds
 
--- fewer were served, and behind them the next one broke off
-pub record BreaksBefore (may_tell : ℕ → Type 0) (why : DriveFault) (count : ℕ) (come : ℕ → ℕ → Type 0) (left : List ServedLink → Type 0) (holds : List ℕ → Type 0) (old new : Cache) (text : List ℕ) : Type 0 where
-  pub n : ℕ
-  pub fewer : n < count
-  pub between : Cache
-  pub all : Connections may_tell n old between
-  pub come_all : come (1 + n) 0
-  pub left_all : left all.links
-  pub broken : BreakOff 1 why (IsOwn may_tell (1 + n)) holds (Unit {0}) between new (unserved (1 + n)) (text ++ texts_given all.results)
-  pub usual : IsUsualBehind old (all.results ++ (broken.results ++ answers_by broken.break)) broken.break
-  pub late : GivesUpLateBehind old (all.results ++ (broken.results ++ answers_by broken.break)) broken.break why (length broken.occurrences)
-  pub expected : IsExpectedOfNew old (all.results ++ (broken.results ++ answers_by broken.break)) broken.break why (length broken.occurrences)
+-- ---- all that were served
 
--- so many connections were served, no further client came, or one broke off
-abbrev pub GivesServing : {T : Type 0} → (ℕ → Type 0) → (ℕ → ℕ → Type 0) → (List ServedLink → Type 0) → (List ℕ → Type 0) → Result T ServingFault → ℕ → Cache → Cache → List ℕ → Type 0
-GivesServing may_tell come left holds (Ok done) count old new text = Serving may_tell count 0 come left holds old new text
-GivesServing may_tell come left holds (Err fault.Clients) count old new text = EndsBefore may_tell count come left holds old new text
-GivesServing may_tell come left holds (Err fault.Recorder) count old new text = BreaksBefore may_tell drive.Recorder count come left holds old new text
-GivesServing may_tell come left holds (Err (fault.Core step)) count old new text = BreaksBefore may_tell (drive.Core step) count come left holds old new text
+module _ (may_tell : ℕ → Type 0) (come : ℕ → ℕ → Type 0) (left : List ServedLink → Type 0) (holds : List ℕ → Type 0) where
+  -- the connections 1, 2, .., n were: so many clients came, and so often none did; their links were handed back, and the texts of the records stand behind the text
+  pub record Serving (n misses : ℕ) (old new : Cache) (text : List ℕ) : Type 0 where
+    pub all : Connections may_tell n old new
+    pub come_all : come n misses
+    pub left_all : left all.links
+    pub held : holds (text ++ texts_given all.results)
+
+  -- fewer were, and no further client came
+  pub record EndsBefore (count : ℕ) (old new : Cache) (text : List ℕ) : Type 0 where
+    pub n : ℕ
+    pub fewer : n < count
+    pub serving : Serving n 1 old new text
+
+  -- fewer were served, and behind them the next one broke off
+  pub record BreaksBefore (why : DriveFault) (count : ℕ) (old new : Cache) (text : List ℕ) : Type 0 where
+    pub n : ℕ
+    pub fewer : n < count
+    pub between : Cache
+    pub all : Connections may_tell n old between
+    pub come_all : come (1 + n) 0
+    pub left_all : left all.links
+    pub broken : BreakOff 1 why (IsOwn may_tell (1 + n)) holds (Unit {0}) (stage between (unserved (1 + n)) (text ++ texts_given all.results)) new
+    pub usual : IsUsualBehind old (all.results ++ (broken.results ++ answers_by broken.break)) broken.break
+    pub late : GivesUpLateBehind old (all.results ++ (broken.results ++ answers_by broken.break)) broken.break why (length broken.occurrences)
+    pub expected : IsExpectedOfNew old (all.results ++ (broken.results ++ answers_by broken.break)) broken.break why (length broken.occurrences)
+
+  -- so many connections were served, no further client came, or one broke off
+  abbrev pub GivesServing : {T : Type 0} → Result T ServingFault → ℕ → Cache → Cache → List ℕ → Type 0
+  GivesServing (Ok done) count old new text = Serving count 0 old new text
+  GivesServing (Err fault.Clients) count old new text = EndsBefore count old new text
+  GivesServing (Err fault.Recorder) count old new text = BreaksBefore drive.Recorder count old new text
+  GivesServing (Err (fault.Core step)) count old new text = BreaksBefore (drive.Core step) count old new text
 
 -- ---- the recording
 

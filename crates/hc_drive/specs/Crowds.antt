@@ -18,19 +18,10 @@ use Rattle.hc_drive.specs.declared.fault.DriveFault.{DriveFault}
 use Rattle.hc_drive.specs.declared.fault.DriveFault.TheVariants as fault
 use Rattle.hc_drive.specs.Clients.{HoldsBeginning, HoldsTranscript}
 use Rattle.hc_drive.specs.Drives.{AreRounds, IsUsualFrom, Leads, answers_by, most_rounds, occurrences_by, texts_given}
-use Rattle.hc_drive.specs.Rounds.{Break, IsToldBy, StopsAt}
+use Rattle.hc_drive.specs.Rounds.{Break, DriveStage, IsToldBy, StopsAt}
 use Rattle.hc_drive.specs.Rounds.Break.{BeforeEvent}
 
--- ---- where a driver stands
-
--- what its cache is, what has passed at the links, and what was written of that
-pub record DriveStage : Type 0 where
-  pub cache : Cache
-  pub log : List Move
-  pub text : List ℕ
-
-abbrev pub stage : Cache → List Move → List ℕ → DriveStage
-stage cache log text = record { cache = cache; log = log; text = text }
+-- ---- what is told
 
 -- what links and a recorder tell: what has passed, by which log clients have seen no more, what was written, and what of that stands for good
 pub record Telling : Type 1 where
@@ -114,7 +105,7 @@ IsLeftAtRest from results cache = (room : ℕ) (settings : CoreSettings) (s : St
 
 -- all is served: clients may have seen all that has passed, all records stand for good, and nothing is open
 pub record Ends (most : ℕ) (new : Telling) (from : DriveStage) (cache : Cache) : Type 0 where
-  pub rounds : AreRounds most new.tells new.holds from.cache cache from.log from.text
+  pub rounds : AreRounds most new.tells new.holds from cache
   pub shown : new.shows (passed rounds.occurrences rounds.results from.log)
   pub kept : new.keeps (from.text ++ texts_given rounds.results)
   pub rests : IsLeftAtRest from rounds.results cache

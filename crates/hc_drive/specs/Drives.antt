@@ -21,7 +21,7 @@ use Rattle.hc_order.specs.Passed.{AreOrderly, AreServed, IsUsual, events_of, pas
 use Rattle.hc_order.specs.Resting.{IsAtRest}
 use Rattle.hc_drive.specs.declared.fault.DriveFault.{DriveFault}
 use Rattle.hc_drive.specs.declared.fault.DriveFault.TheVariants as fault
-use Rattle.hc_drive.specs.Rounds.{Break, IsToldBy, StopsAt}
+use Rattle.hc_drive.specs.Rounds.{Break, DriveStage, IsToldBy, StopsAt}
 use Rattle.hc_drive.specs.Rounds.Break.{BeforeEvent, AtAnswer, Carrying}
 
 -- ---- what the cache was handed and answered
@@ -65,17 +65,17 @@ LeadsToMirror old new occurrences results log = (room : ℕ) (settings : CoreSet
     → s.numbers.records + length (records_given results) ≤ greatest_number → Mirrors room s log
     → LedToMirror room settings s new (length (records_given results)) (passed occurrences results log)
 
--- what happened may happen in turn, where so many connections are open at once at most, and was served by these answers, and all that the cache did was carried out;
--- the texts of its records stand behind the text
-pub record AreRounds (most : ℕ) (tells : List Move → Type 0) (holds : List ℕ → Type 0) (old new : Cache) (log : List Move) (text : List ℕ) : Type 0 where
+-- from there what happened may happen in turn, where so many connections are open at once at most, and was served by these answers, and all that the cache did was
+-- carried out; the texts of its records stand behind the text
+pub record AreRounds (most : ℕ) (tells : List Move → Type 0) (holds : List ℕ → Type 0) (from : DriveStage) (new : Cache) : Type 0 where
   pub occurrences : List Occurrence
   pub results : List StepResult
-  pub orderly : AreOrderly most occurrences results log
-  pub leads : Leads old new (events_of occurrences) results
-  pub mirrors : LeadsToMirror old new occurrences results log
+  pub orderly : AreOrderly most occurrences results from.log
+  pub leads : Leads from.cache new (events_of occurrences) results
+  pub mirrors : LeadsToMirror from.cache new occurrences results from.log
   pub served : AreServed results
-  pub told : tells (passed occurrences results log)
-  pub held : holds (text ++ texts_given results)
+  pub told : tells (passed occurrences results from.log)
+  pub held : holds (from.text ++ texts_given results)
 
 -- ---- rounds of which the last broke off
 
@@ -125,23 +125,23 @@ abbrev pub GivesUpLateFrom : Cache → List Move → List StepResult → Break �
 GivesUpLateFrom old log results break why rounds = (room : ℕ) (settings : CoreSettings) (s : State) (h : History) → AreGood settings → StandsFor settings old s → Agrees s h
     → s.numbers.records + length (records_given results) ≤ greatest_number → IsAtRest s → Mirrors room s log → first_in log ≡ None → GivesUpLate break why rounds
 
-pub record BreakOff (most : ℕ) (why : DriveFault) (tells : List Move → Type 0) (holds : List ℕ → Type 0) (rests : Type 0) (old new : Cache) (log : List Move) (text : List ℕ) : Type 0 where
+pub record BreakOff (most : ℕ) (why : DriveFault) (tells : List Move → Type 0) (holds : List ℕ → Type 0) (rests : Type 0) (from : DriveStage) (new : Cache) : Type 0 where
   pub occurrences : List Occurrence
   pub results : List StepResult
   pub break : Break
   pub told_by : IsToldBy break why ⊎ GivesUp break why new rests (length occurrences)
-  pub orderly : AreOrderly most (occurrences ++ occurrences_by break) (results ++ answers_by break) log
-  pub leads : Leads old new (events_of (occurrences ++ occurrences_by break)) (results ++ answers_by break)
-  pub usual : IsUsualFrom most old log results break
-  pub late : GivesUpLateFrom old log results break why (length occurrences)
+  pub orderly : AreOrderly most (occurrences ++ occurrences_by break) (results ++ answers_by break) from.log
+  pub leads : Leads from.cache new (events_of (occurrences ++ occurrences_by break)) (results ++ answers_by break)
+  pub usual : IsUsualFrom most from.cache from.log results break
+  pub late : GivesUpLateFrom from.cache from.log results break why (length occurrences)
   pub served : AreServed results
-  pub stops : StopsAt break tells holds (passed occurrences results log) (text ++ texts_given results)
+  pub stops : StopsAt break tells holds (passed occurrences results from.log) (from.text ++ texts_given results)
 
-abbrev pub GivesDrive : {T : Type 0} → ℕ → (List Move → Type 0) → (List ℕ → Type 0) → Type 0 → Result T DriveFault → Cache → Cache → List Move → List ℕ → Type 0
-GivesDrive most tells holds rests (Ok done) old new log text = AreRounds most tells holds old new log text
-GivesDrive most tells holds rests (Err fault.Client) old new log text = AreRounds most tells holds old new log text
-GivesDrive most tells holds rests (Err fault.Recorder) old new log text = BreakOff most fault.Recorder tells holds rests old new log text
-GivesDrive most tells holds rests (Err (fault.Core step)) old new log text = BreakOff most (fault.Core step) tells holds rests old new log text
+abbrev pub GivesDrive : {T : Type 0} → ℕ → (List Move → Type 0) → (List ℕ → Type 0) → Type 0 → Result T DriveFault → DriveStage → Cache → Type 0
+GivesDrive most tells holds rests (Ok done) from new = AreRounds most tells holds from new
+GivesDrive most tells holds rests (Err fault.Client) from new = AreRounds most tells holds from new
+GivesDrive most tells holds rests (Err fault.Recorder) from new = BreakOff most fault.Recorder tells holds rests from new
+GivesDrive most tells holds rests (Err (fault.Core step)) from new = BreakOff most (fault.Core step) tells holds rests from new
 
 -- ---- a connection that was served
 

@@ -24,6 +24,19 @@ use Rattle.hc_drive.specs.declared.fault.DriveFault.{DriveFault}
 use Rattle.hc_drive.specs.declared.fault.DriveFault.TheVariants.{Core}
 use Rattle.hc_drive.specs.Carrying.{AreCut, AreDone, IsOfCarrying}
 
+-- ---- where a driver stands
+
+-- what its cache is, what has passed at the links, and what was written of that
+pub record DriveStage : Type 0 where
+  pub cache : Cache
+  pub log : List Move
+  pub text : List ℕ
+
+abbrev pub stage : Cache → List Move → List ℕ → DriveStage
+stage cache log text = record { cache = cache; log = log; text = text }
+
+-- ---- what its cache is asked
+
 -- whatever state the cache stands for, that is whether a request of that connection awaits its reply there
 abbrev pub awaited_by : Cache → ℕ → Bool → Type 0
 awaited_by cache c awaits = (settings : CoreSettings) (s : State) → StandsFor settings cache s → awaits ≡ awaits_reply c s
@@ -49,18 +62,20 @@ held_of (Origin f) s = held_of_forward f s
 abbrev pub held_by : Cache → Receiver → ℕ → Type 0
 held_by cache link count = (settings : CoreSettings) (s : State) → StandsFor settings cache s → count ≡ held_of link s
 
+-- ---- a round
+
 -- the cache was handed the event, and answered so
 pub record Answers (event : Event) (answer : StepResult) (old new : Cache) : Type 0 where
   pub gives : (settings : CoreSettings) (s : State) → StandsFor settings old s → IsReady s → GivesStep answer settings event s new
   pub same : (step : StepFault) → answer ≡ Err step → step ≢ Memory → new ≡ old
 
--- a whole round of links at which so many connections are open at once at most
-pub record IsRound (most : ℕ) (tells : List Move → Type 0) (holds : List ℕ → Type 0) (old new : Cache) (log : List Move) (text : List ℕ) : Type 0 where
+-- a whole round from there, of links at which so many connections are open at once at most
+pub record IsRound (most : ℕ) (tells : List Move → Type 0) (holds : List ℕ → Type 0) (from : DriveStage) (new : Cache) : Type 0 where
   pub occurrence : Occurrence
   pub actions : Vec Action Global
-  pub may : MayHappen most occurrence.event.of log
-  pub answers : Answers occurrence.event (Ok actions) old new
-  pub done : AreDone tells holds actions.items (Heard occurrence ∷ log) text
+  pub may : MayHappen most occurrence.event.of from.log
+  pub answers : Answers occurrence.event (Ok actions) from.cache new
+  pub done : AreDone tells holds actions.items (Heard occurrence ∷ from.log) from.text
 
 -- where it broke off: before something happened, at the cache's answer, or while that was carried out
 pub data Break : Type 0 where
@@ -98,8 +113,8 @@ IsHeeded heeds BeforeEvent = Unit {0}
 IsHeeded heeds (AtAnswer occurrence step) = heeds (Ok (Some occurrence))
 IsHeeded heeds (Carrying occurrence actions) = heeds (Ok (Some occurrence))
 
-abbrev pub GivesRound : ℕ → (Result (Option Occurrence) AllocError → Type 0) → (List Move → Type 0) → (List ℕ → Type 0) → Result Bool DriveFault → Cache → Cache → List Move → List ℕ → Type 0
-GivesRound most heeds tells holds (Ok true) old new log text = (round : IsRound most tells holds old new log text) × heeds (Ok (Some round.occurrence))
-GivesRound most heeds tells holds (Ok false) old new log text = (new ≡ old) × tells log × holds text
-GivesRound most heeds tells holds (Err fault) old new log text =
-    (break : Break) × IsToldBy break fault × AnswersBy break old new × StopsAt break tells holds log text × MayBreak most break log × IsHeeded heeds break
+abbrev pub GivesRound : ℕ → (Result (Option Occurrence) AllocError → Type 0) → (List Move → Type 0) → (List ℕ → Type 0) → Result Bool DriveFault → DriveStage → Cache → Type 0
+GivesRound most heeds tells holds (Ok true) from new = (round : IsRound most tells holds from new) × heeds (Ok (Some round.occurrence))
+GivesRound most heeds tells holds (Ok false) from new = (new ≡ from.cache) × tells from.log × holds from.text
+GivesRound most heeds tells holds (Err fault) from new =
+    (break : Break) × IsToldBy break fault × AnswersBy break from.cache new × StopsAt break tells holds from.log from.text × MayBreak most break from.log × IsHeeded heeds break

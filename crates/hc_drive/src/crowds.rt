@@ -11,7 +11,8 @@ ghost use Rattle.hc_core.specs.Steps.{StandsFor};
 ghost use Rattle.hc_order.specs.Log.{Move};
 ghost use Rattle.hc_links.specs.Keeping.{KeepsLimits, KeepsRecorder};
 ghost use Rattle.hc_drive.specs.Carrying.{CountsRecorder, IsOfCarrying};
-ghost use Rattle.hc_drive.specs.Crowds.{GivesCrowd, GivesPause, GivesRecording, stage, telling};
+ghost use Rattle.hc_drive.specs.Crowds.{GivesCrowd, GivesPause, GivesRecording, telling};
+ghost use Rattle.hc_drive.specs.Rounds.{stage};
 
 use crate::asked::Asked;
 use crate::fault::DriveFault;

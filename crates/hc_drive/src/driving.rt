@@ -5,6 +5,7 @@ ghost use Rattle.hc_order.specs.Log.{Move};
 ghost use Rattle.hc_links.specs.Keeping.{KeepsLinks, KeepsRecorder};
 ghost use Rattle.hc_drive.specs.Carrying.{CountsRecorder};
 ghost use Rattle.hc_drive.specs.Drives.{GivesDrive};
+ghost use Rattle.hc_drive.specs.Rounds.{stage};
 
 use crate::fault::DriveFault;
 use crate::rounds::round;
@@ -25,7 +26,8 @@ pub fn drive<S: BuildHasher, L: Links, R: Link>(
     recorder: &mut R,
 ) -> Result<(), DriveFault>
     ensures drive { (log : List Move) (text : List ℕ) → L.tells links.old log → R.has_got recorder.old text
-        → GivesDrive (L.most links.old) (L.tells links.new) (R.has_got recorder.new) (L.rests links.new) result core.old core.new log text }
+        → GivesDrive (L.most links.old) (L.tells links.new) (R.has_got recorder.new) (L.rests links.new)
+        result (stage core.old log text) core.new }
     ensures rests { IfOk result (λ _. L.rests links.new) }
     ensures links { KeepsLinks L.shows L.most L.bounds L.may_tell links.old links.new }
     ensures recorder { KeepsRecorder R.has_kept R.was_read recorder.old recorder.new }

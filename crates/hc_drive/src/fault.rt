@@ -24,32 +24,6 @@ pub enum DriveFault {
     Core(StepFault),
 }
 
-impl DriveFault {
-    ghost use Rattle.hc_drive.specs.FaultNames.{fault_name, fault_number};
-
-    /// The number that stands for the fault in reports.
-    pub fn number(&self) -> u32
-        ensures { result ≡ fault_number self.now }
-    {
-        match self {
-            DriveFault::Client => 1,
-            DriveFault::Recorder => 2,
-            DriveFault::Core(_) => 3,
-        }
-    }
-
-    /// The name that stands for the fault in reports.
-    pub fn name(&self) -> &'static str
-        ensures { result.now ≡ fault_name self.now }
-    {
-        match self {
-            DriveFault::Client => "Client",
-            DriveFault::Recorder => "Recorder",
-            DriveFault::Core(_) => "Core",
-        }
-    }
-}
-
 impl From<AllocError> for DriveFault {
     ghost from_gives = { λ _ e. e ≡ Core Memory };
 

@@ -4,7 +4,7 @@ ghost use Rattle.std.specs.Prelude.{◌≡◌, ℕ, List, Ok, false};
 ghost use Rattle.hc_order.specs.Log.{Move};
 ghost use Rattle.hc_links.specs.Keeping.{KeepsLinks, KeepsRecorder};
 ghost use Rattle.hc_drive.specs.Carrying.{CountsRecorder};
-ghost use Rattle.hc_drive.specs.Rounds.{GivesRound, awaited_by};
+ghost use Rattle.hc_drive.specs.Rounds.{GivesRound, awaited_by, stage};
 
 use crate::asked::Asked;
 use crate::carrying::carry_out;
@@ -25,7 +25,7 @@ pub(crate) fn round<S: BuildHasher, L: Links, R: Link, V: Watcher<L, R>>(
 ) -> Result<bool, DriveFault>
     ensures round { (log : List Move) (text : List ℕ) → L.tells links.old log → R.has_got recorder.old text
         → GivesRound (L.most links.old) (L.heeds (awaited_by core.old)) (L.tells links.new) (R.has_got recorder.new)
-        result core.old core.new log text }
+        result (stage core.old log text) core.new }
     ensures rests { result ≡ Ok false → L.rests links.new }
     ensures links { KeepsLinks L.shows L.most L.bounds L.may_tell links.old links.new }
     ensures recorder { KeepsRecorder R.has_kept R.was_read recorder.old recorder.new }

@@ -6,6 +6,7 @@ ghost use Rattle.hc_order.specs.Log.{Move};
 ghost use Rattle.hc_connection.specs.Sides.{Rests};
 ghost use Rattle.hc_links.specs.Keeping.{KeepsRecorder};
 ghost use Rattle.hc_drive.specs.Drives.{CountsServed, GivesDrive, LeavesIdle, LeavesOpened, LeavesResting, SaysFailed};
+ghost use Rattle.hc_drive.specs.Rounds.{stage};
 
 use crate::driving::drive;
 use crate::fault::DriveFault;
@@ -33,7 +34,7 @@ pub fn serve_connection<S: BuildHasher, C: Link, O: Origins, K: Clock, R: Link>(
         → GivesDrive 1 (λ log. HasPassed C.has_given C.has_got C.was_read C.count O.Link.has_given O.Link.has_got (K.may_tell connection.new.clock.now)
         connection.new.opened connection.new.peers.client connection.new.peers.forwards.links log)
         (R.has_got recorder.new) (Rests connection.new.opened (length connection.new.peers.forwards.links.entries) connection.new.peers.client)
-        result core.old core.new log text }
+        result (stage core.old log text) core.new }
     ensures moments { (moment : ℕ) → K.may_tell connection.new.clock.now moment → K.may_tell connection.old.clock.now moment }
     ensures recorder { KeepsRecorder R.has_kept R.was_read recorder.old recorder.new }
     ensures rests { LeavesResting result (Rests connection.new.opened (length connection.new.peers.forwards.links.entries) connection.new.peers.client) }

@@ -8,7 +8,7 @@ use Rattle.hc_framing.specs.declared.fault.FrameFault.TheVariants.{Head, BothLen
 use Rattle.hc_framing.specs.declared.chunk_fault.ChunkFault.{ChunkFault}
 use Rattle.hc_framing.specs.declared.chunk_fault.ChunkFault.TheVariants as chunks
 use Rattle.hc_framing.specs.declared.trailer.TrailerReader.{TrailerReader}
-use Rattle.hc_framing.specs.Names.{of_chunk}
+use Rattle.hc_framing.specs.ChunkFaults.{of_chunk}
 use Rattle.hc_framing.specs.declared.framing.Framing.{Framing}
 use Rattle.hc_framing.specs.declared.framing.Framing.TheVariants.{Nothing, Sized, Chunked, UntilClose}
 use Rattle.hc_framing.specs.declared.framing_reader.FramingStage.{FramingStage}

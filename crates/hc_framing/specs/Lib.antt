@@ -2,7 +2,7 @@ pub mod ChunkLines
 pub mod ChunkLineReading
 pub mod Trailers
 pub mod TrailerReading
-pub mod Names
+pub mod ChunkFaults
 pub mod Chunks
 pub mod Framing
 pub mod Forms

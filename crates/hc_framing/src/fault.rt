@@ -2,7 +2,7 @@
 
 ghost use Rattle.std.specs.Prelude.{◌≡◌};
 ghost use Rattle.hc_framing.specs.declared.fault.FrameFault.TheVariants.{Memory};
-ghost use Rattle.hc_framing.specs.Names.{of_chunk};
+ghost use Rattle.hc_framing.specs.ChunkFaults.{of_chunk};
 
 use crate::chunk_fault::ChunkFault;
 use hc_head::HeadFault;
@@ -42,45 +42,6 @@ pub enum FrameFault {
     /// The reader returned a fault before, and reads no more.
     #[error("a fault was met before")]
     Failed,
-}
-
-impl FrameFault {
-    ghost use Rattle.std.specs.Prelude.{◌≡◌};
-    ghost use Rattle.hc_framing.specs.Names.{fault_number, fault_name};
-
-    /// The number that stands for the fault in reports.
-    pub fn number(&self) -> u32
-        ensures { result ≡ fault_number self.now }
-    {
-        match self {
-            FrameFault::Head(_) => 1,
-            FrameFault::BothLengths => 2,
-            FrameFault::BadLength => 3,
-            FrameFault::BadCoding => 4,
-            FrameFault::BadChunk => 5,
-            FrameFault::BodyTooLong => 6,
-            FrameFault::Truncated => 7,
-            FrameFault::Memory => 8,
-            FrameFault::Failed => 9,
-        }
-    }
-
-    /// The name that stands for the fault in reports.
-    pub fn name(&self) -> &'static str
-        ensures { result.now ≡ fault_name self.now }
-    {
-        match self {
-            FrameFault::Head(_) => "Head",
-            FrameFault::BothLengths => "BothLengths",
-            FrameFault::BadLength => "BadLength",
-            FrameFault::BadCoding => "BadCoding",
-            FrameFault::BadChunk => "BadChunk",
-            FrameFault::BodyTooLong => "BodyTooLong",
-            FrameFault::Truncated => "Truncated",
-            FrameFault::Memory => "Memory",
-            FrameFault::Failed => "Failed",
-        }
-    }
 }
 
 impl From<AllocError> for FrameFault {

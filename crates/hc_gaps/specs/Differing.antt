@@ -28,7 +28,7 @@ change_of claim state name =
 
 -- ---- what permits that it differs
 
--- it says what a body is
+-- it says what a body is (RFC 9110 sections 8 and 14.4)
 abbrev pub is_of_content : List ℕ → Bool
 is_of_content name = list_any (λ known. bytes_eq known name) names_of_content
 

@@ -1,4 +1,3 @@
-pub mod Faults
 pub mod Heads
 pub mod Reading
 pub mod Hosts

@@ -31,39 +31,6 @@ pub enum HeadFault {
     Memory,
 }
 
-impl HeadFault {
-    ghost use Rattle.std.specs.Prelude.{◌≡◌, codes};
-    ghost use Rattle.hc_head.specs.Faults.{fault_number, fault_name};
-
-    /// The number that stands for the fault in reports.
-    pub fn number(&self) -> u32
-        ensures { result ≡ fault_number self.now }
-    {
-        match self {
-            HeadFault::Syntax => 1,
-            HeadFault::TooManyFields => 2,
-            HeadFault::TooLong => 3,
-            HeadFault::Host => 4,
-            HeadFault::Target => 5,
-            HeadFault::Memory => 6,
-        }
-    }
-
-    /// The name that stands for the fault in reports.
-    pub fn name(&self) -> &'static str
-        ensures { result.now ≡ fault_name self.now }
-    {
-        match self {
-            HeadFault::Syntax => "Syntax",
-            HeadFault::TooManyFields => "TooManyFields",
-            HeadFault::TooLong => "TooLong",
-            HeadFault::Host => "Host",
-            HeadFault::Target => "Target",
-            HeadFault::Memory => "Memory",
-        }
-    }
-}
-
 impl From<AllocError> for HeadFault {
     ghost from_gives = { λ _ e. e ≡ Memory };
 

@@ -6,6 +6,7 @@ use Rattle.hc_head.specs.Targets.{same_target}
 use Rattle.hc_framing.specs.declared.message.Message.{Message}
 use Rattle.hc_status.specs.declared.marks.Mark.{Mark}
 use Rattle.hc_status.specs.declared.marks.Mark.TheVariants.{Hit, Forwarded, Both, Unmarked}
+use Rattle.hc_transcript.specs.declared.fault.RecordFault.{RecordFault}
 use Rattle.hc_transcript.specs.declared.format.Format.{Format}
 use Rattle.hc_transcript.specs.Records.{told_in}
 use Rattle.hc_transcript.specs.Items.{Item, OriginResponse, ClientReply, Exchange, Forward}
@@ -15,14 +16,19 @@ use Rattle.hc_history.specs.declared.among.Among.{Among}
 use Rattle.hc_history.specs.declared.among.Among.TheVariants.{Any, InWindow}
 use Rattle.hc_history.specs.declared.reasons.Reason.{Reason}
 use Rattle.hc_history.specs.declared.settings.Settings.{Settings}
+use Rattle.hc_history.specs.declared.verdicts.Counts.{Counts}
+use Rattle.hc_history.specs.declared.verdicts.Verdict.{Verdict}
+use Rattle.hc_history.specs.declared.verdicts.Verdict.TheVariants.{Yes, No, Malformed}
 use Rattle.hc_history.specs.Allowed.{nothing_allowed, nothing_but_marks}
 use Rattle.hc_history.specs.Claims.{Claim, claim_of}
 use Rattle.hc_history.specs.Counting.{counts_of, marked, one_more}
 use Rattle.hc_history.specs.Forwarded.{carries_response, is_carried, is_forwarded}
 use Rattle.hc_history.specs.Marks.{item_mark, mark_to, reply_mark}
 use Rattle.hc_history.specs.Reused.{IsFirstFailed, Pass}
-use Rattle.hc_history.specs.Right.{CarriesStored, IsRight, IsRightBy, IsRightForwarded, IsRightTo, IsWrong, IsWrongBy, IsWrongForwarded, IsWrongTo, is_judged_collapsed}
+use Rattle.hc_history.specs.Right.{AllRight, CarriesStored, IsRight, IsRightBy, IsRightForwarded, IsRightTo, IsWrong, IsWrongBy, IsWrongForwarded, IsWrongTo, is_judged_collapsed}
 use Rattle.hc_history.specs.Strict.{IsFirstFailedStrictly, IsStrictlyForwarded, IsStrictlyRight, IsStrictlyRightBy, IsStrictlyRightTo, IsStrictlyWrong, IsStrictlyWrongBy, IsStrictlyWrongTo, StrictPass, answers_whole, is_answer, is_answered, own_mark, reason_forwarded, strict_counts}
+use Rattle.hc_history.specs.StrictVerdicts.{AllStrictlyRight, IsAllStrictlyRight, IsStrictVerdict, IsStrictlyMalformedAt, IsStrictlyWrongAt}
+use Rattle.hc_history.specs.Verdicts.{IsAllRight, IsMalformedAt, IsVerdict, IsWrongAt}
 use Rattle.hc_history.specs.Windows.{has_forward, may_be_for, some_since}
 use Rattle.hc_history.proofs.AllowedLemmas.{carried_strictly, marked_strictly, strict_alike}
 
@@ -185,3 +191,95 @@ module _ (format : Format) (settings : Settings) (none : settings.allowed ≡ no
   pub counted : (h : List Item) → counts_of format settings h ≡ strict_counts h
   counted [] = refl
   counted (item ∷ h) = λ i. marked (same_mark h item i) (one_more (counted h i))
+
+  -- ---- the verdict
+
+  all_strictly : (h : List Item) → AllRight format settings h → AllStrictlyRight format settings h
+  all_strictly [] all = all
+  all_strictly (item ∷ h) all = (all_strictly h all.0, (rightly h item).0 all.1)
+
+  all_loosely : (h : List Item) → AllStrictlyRight format settings h → AllRight format settings h
+  all_loosely [] all = all
+  all_loosely (item ∷ h) all = (all_loosely h all.0, (rightly h item).1 all.1)
+
+module _ (octets : List ℕ) (settings : Settings) (none : settings.allowed ≡ nothing_allowed) where
+  yes_strictly : (counts : Counts) → IsAllRight octets settings counts → IsAllStrictlyRight octets settings counts
+  yes_strictly counts found = record {
+    format = found.format;
+    records = found.records;
+    history = found.history;
+    is_transcript = found.is_transcript;
+    all_right = all_strictly found.format settings none found.history found.all_right;
+    counts_are = found.counts_are ∙ counted found.format settings none found.history;
+  }
+
+  yes_loosely : (counts : Counts) → IsAllStrictlyRight octets settings counts → IsAllRight octets settings counts
+  yes_loosely counts found = record {
+    format = found.format;
+    records = found.records;
+    history = found.history;
+    is_transcript = found.is_transcript;
+    all_right = all_loosely found.format settings none found.history found.all_right;
+    counts_are = found.counts_are ∙ sym (counted found.format settings none found.history);
+  }
+
+  no_strictly : (position : ℕ) (why : Reason) → IsWrongAt octets settings position why → IsStrictlyWrongAt octets settings position why
+  no_strictly position why found = record {
+    format = found.format;
+    records = found.records;
+    history = found.history;
+    item = found.item;
+    rest = found.rest;
+    splits = found.splits;
+    all_right = all_strictly found.format settings none found.history found.all_right;
+    is_wrong = (wrongly found.format settings none found.history found.item why).0 found.is_wrong;
+    position_is = found.position_is;
+  }
+
+  no_loosely : (position : ℕ) (why : Reason) → IsStrictlyWrongAt octets settings position why → IsWrongAt octets settings position why
+  no_loosely position why found = record {
+    format = found.format;
+    records = found.records;
+    history = found.history;
+    item = found.item;
+    rest = found.rest;
+    splits = found.splits;
+    all_right = all_loosely found.format settings none found.history found.all_right;
+    is_wrong = (wrongly found.format settings none found.history found.item why).1 found.is_wrong;
+    position_is = found.position_is;
+  }
+
+  broken_strictly : (position : ℕ) (broken : RecordFault) → IsMalformedAt octets settings position broken
+      → IsStrictlyMalformedAt octets settings position broken
+  broken_strictly position broken at = record {
+    format = at.format;
+    history = at.history;
+    all_right = all_strictly at.format settings none at.history at.all_right;
+    breaks = at.breaks;
+    position_is = at.position_is;
+  }
+
+  broken_loosely : (position : ℕ) (broken : RecordFault) → IsStrictlyMalformedAt octets settings position broken
+      → IsMalformedAt octets settings position broken
+  broken_loosely position broken at = record {
+    format = at.format;
+    history = at.history;
+    all_right = all_loosely at.format settings none at.history at.all_right;
+    breaks = at.breaks;
+    position_is = at.position_is;
+  }
+
+  malformed_strictly : (position : ℕ) (broken : RecordFault) → IsVerdict octets settings (Malformed position broken)
+      → IsStrictVerdict octets settings (Malformed position broken)
+  malformed_strictly position broken (inl opening) = inl opening
+  malformed_strictly position broken (inr at) = inr (broken_strictly position broken at)
+
+  malformed_loosely : (position : ℕ) (broken : RecordFault) → IsStrictVerdict octets settings (Malformed position broken)
+      → IsVerdict octets settings (Malformed position broken)
+  malformed_loosely position broken (inl opening) = inl opening
+  malformed_loosely position broken (inr at) = inr (broken_loosely position broken at)
+
+  pub verdict_strictly : (verdict : Verdict) → IsVerdict octets settings verdict ↔ IsStrictVerdict octets settings verdict
+  verdict_strictly (Yes counts) = (yes_strictly counts, yes_loosely counts)
+  verdict_strictly (No position why) = (no_strictly position why, no_loosely position why)
+  verdict_strictly (Malformed position broken) = (malformed_strictly position broken, malformed_loosely position broken)

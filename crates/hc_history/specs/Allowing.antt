@@ -89,7 +89,7 @@ body_is_allowed claim state = has_its_body claim state || is_no_part claim state
 
 -- ---- 7: fields that were added (RFC 9110 sections 7.7 and 15.4.5), and lines that were joined or parted (section 5.3)
 
--- the names that say what a body is: where they are added, it is another one
+-- the names that say what a body is (RFC 9110 sections 8 and 14.4): where they are added, it is another one
 abbrev pub names_of_content : List (List ℕ)
 names_of_content =
     codes "content-encoding" ∷ codes "content-language" ∷ codes "content-location" ∷ codes "content-range" ∷ codes "content-type"

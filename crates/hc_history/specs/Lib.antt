@@ -14,6 +14,7 @@ pub mod Right
 pub mod Counting
 pub mod Strict
 pub mod Verdicts
+pub mod StrictVerdicts
 pub mod WrongReplies
 pub mod Seen
 pub mod Noting

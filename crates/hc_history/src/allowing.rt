@@ -9,7 +9,7 @@ use crate::allowed::Allowed;
 use crate::claim::ReplyClaim;
 use crate::filters::within;
 use crate::settings::FieldNames;
-use crate::usable::{age_of, freshness_of, is_usable, lifetime_of, permits_staleness};
+use crate::usable::{age_of, freshness_of, is_usable, is_within, lifetime_of, permits_staleness};
 use hc_fresh::{Freshness, explicit, says, stale_forbidden, staleness};
 use hc_rules::{is_heuristically_cacheable, is_met};
 use hc_update::Stored;
@@ -122,8 +122,7 @@ fn widens_use(allowed: &Allowed) -> bool
 pub fn is_allowed_fresh(claim: &ReplyClaim<'_>, state: &Stored) -> bool
     ensures { result ≡ is_allowed_fresh claim.now state.now }
 {
-    u64::from(age_of(claim, state))
-        < u64::from(allowed_lifetime(claim, state)) + u64::from(claim.settings.slack)
+    is_within(claim, state, allowed_lifetime(claim, state))
 }
 
 /// Whether it may be served stale by that lifetime, or by the grace (RFC 9111 section 4.2.4).

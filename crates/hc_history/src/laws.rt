@@ -40,6 +40,7 @@ ghost use Rattle.hc_history.specs.Forwarded.{carries, is_forwarded};
 ghost use Rattle.hc_history.specs.Counting.{counts_of};
 ghost use Rattle.hc_history.specs.Strict.{IsStrictlyRight, IsStrictlyWrong, is_answered, strict_counts};
 ghost use Rattle.hc_history.specs.Right.{IsRight, IsRightBy, IsWrong, IsWrongBy, IsFinding};
+ghost use Rattle.hc_history.specs.StrictVerdicts.{IsStrictVerdict};
 ghost use Rattle.hc_history.specs.Verdicts.{IsVerdict};
 ghost use Rattle.hc_history.specs.WrongReplies.{AreWrongReplies};
 ghost use Rattle.hc_history.specs.Seen.{Seen, IsSeenAs, remaining, live_of, responses_since};
@@ -98,7 +99,7 @@ pub fn wrong_by_one_reason()
 {}
 
 /// Where nothing is allowed beside the strict rules, a reply is right, or wrong by a reason, exactly where it
-/// strictly is, and the same is counted: of a verdict nothing else reads the settings.
+/// strictly is, the same is counted, and a verdict is the one on octets exactly where it strictly is.
 pub fn nothing_allowed_is_strict()
     ensures right { (format : Format) (settings : Settings) (h : List Item) (item : Item) → settings.allowed ≡ nothing_allowed
         → IsRight format settings h item ↔ IsStrictlyRight format settings h item }
@@ -106,6 +107,8 @@ pub fn nothing_allowed_is_strict()
         → IsWrong format settings h item why ↔ IsStrictlyWrong format settings h item why }
     ensures counts { (format : Format) (settings : Settings) (h : List Item) → settings.allowed ≡ nothing_allowed
         → counts_of format settings h ≡ strict_counts h }
+    ensures verdict { (octets : List ℕ) (settings : Settings) (verdict : Verdict) → settings.allowed ≡ nothing_allowed
+        → IsVerdict octets settings verdict ↔ IsStrictVerdict octets settings verdict }
     // The filters, and what is forwarded, are strict too where marks alone are inferred.
     ensures filters { (inferred : Bool) (claim : Claim) (kept : Kept) → claim.settings.allowed ≡ nothing_but_marks inferred
         → filters claim kept ≡ strict_filters claim kept }

@@ -128,7 +128,7 @@ pub fn validated_since(since: u64, validated_at: Option<u64>) -> bool
 }
 
 /// Whether its age is within that lifetime, give or take the slack.
-fn is_within(claim: &ReplyClaim<'_>, state: &Stored, lifetime: u32) -> bool
+pub(crate) fn is_within(claim: &ReplyClaim<'_>, state: &Stored, lifetime: u32) -> bool
     ensures { result ≡ nat_lt (age_of claim.now state.now) (lifetime + claim.now.settings.slack) }
 {
     u64::from(age_of(claim, state)) < u64::from(lifetime) + u64::from(claim.settings.slack)

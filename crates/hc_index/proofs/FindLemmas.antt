@@ -1,10 +1,8 @@
--- What the lists of an index tell of a reply.
+-- What an index tells of a reply.
 use Rattle.std.proofs.Common.{◌≡◌, ℕ, ◌≤◌, Bool, true, false, ◌&&◌, ◌||◌, cond, List, [], ◌∷◌, ◌++◌, length, max, Option, Some, None, Ok, Err, refl, sym, ap, subst, ◌∙◌, arith, append_assoc, append-nil, inl, inr, ltb, ltb-true, ltb-false}
 use Rattle.std.specs.Prelude.{filter, map, nat_le, Result, IfOk}
 use Rattle.std.specs.declared.alloc.AllocError.{AllocError}
-use Rattle.std.specs.List.{list_any}
-use Rattle.std.specs.Ordering.{nat_cmp}
-use Rattle.std.specs.BTreeMap.{get}
+use Rattle.std.specs.Option.{option_map}
 use Rattle.std.proofs.lemmas.Bool.{cases_Bool}
 use Rattle.std.proofs.lemmas.Bool.Decides.{nat_tests}
 use Rattle.hc_head.specs.declared.head.Target.{Target}
@@ -19,26 +17,21 @@ use Rattle.hc_history.specs.declared.settings.Settings.{Settings}
 use Rattle.hc_history.specs.declared.verdicts.Finding.{Finding}
 use Rattle.hc_history.specs.Marks.{mark_to}
 use Rattle.hc_history.specs.Claims.{Claim, claim_of}
-use Rattle.hc_history.specs.Windows.{may_be_for}
 use Rattle.hc_history.specs.declared.among.Among.{Among}
 use Rattle.hc_history.specs.declared.among.Among.TheVariants.{Any, InWindow, Recent}
 use Rattle.hc_history.specs.Allowing.{filters}
-use Rattle.hc_history.specs.Forwarded.{carries, is_forwarded}
 use Rattle.hc_history.specs.Furthest.{passed, passed_among, furthest, furthest_live}
 use Rattle.hc_history.specs.Reused.{filter_count, is_looked_at}
 use Rattle.hc_history.specs.Right.{IsFoundBy, IsFinding}
-use Rattle.hc_history.specs.Seen.{Seen, IsSeenAs, Live, WindowResponse, live_of, responses_since, window_responses_of}
+use Rattle.hc_history.specs.Seen.{Seen, IsSeenAs, Live, live_of, responses_since, window_responses_of}
 use Rattle.hc_head.proofs.SameTargetLemmas.{same_target_one}
-use Rattle.hc_history.proofs.WindowLemmas.{carried}
 use Rattle.hc_history.proofs.FurthestLemmas.{passed_few}
 use Rattle.hc_history.proofs.LiveLemmas.{passed_other, furthest_is_live, AreBefore, before_later, earlier_are_before}
 use Rattle.hc_index.specs.declared.kept.LiveResponse.{LiveResponse}
-use Rattle.hc_index.specs.declared.kept.WindowAnswer.{WindowAnswer}
-use Rattle.hc_index.specs.declared.kept.PooledExchange.{PooledExchange}
-use Rattle.hc_index.specs.declared.at_target.AtTarget.{AtTarget}
-use Rattle.hc_index.specs.declared.map_index.MapIndex.{MapIndex}
-use Rattle.hc_index.specs.Lists.{live_seen, answer_seen, exchange_seen, by_target, carried_by, ends_at, passed_live, live_in, IsMostOrEnough}
-use Rattle.hc_index.specs.Maps.{ToldResponse, those_for, carries_told, is_open, answers_behind, live_kept, window_kept, open_kept, known_in, pooled_exchange, window_in, seen_in}
+use Rattle.hc_index.specs.declared.opened.Opened.{Opened}
+use Rattle.hc_index.specs.Lists.{live_seen, exchange_seen, ends_at, passed_live, live_in, IsMostOrEnough}
+use Rattle.hc_index.specs.Opened.{IsLent, Lends, answers_lent}
+use Rattle.hc_index.specs.Windows.{those_for}
 
 -- ---- the most filters that one live response passes
 
@@ -241,47 +234,6 @@ all_are_most claim lives n h are most =
       | inr all ↦ omega (arith, ltb-false n filter_count all, most.at_most, most_few Any claim lives, most_is_furthest Any claim lives h are)
     ]
 
--- ---- what the window holds
-
-carries_answer : Claim → WindowAnswer → Bool
-carries_answer claim answer = carries claim answer.method answer.status answer.body
-
-any_seen : (claim : Claim) (window : List WindowAnswer)
-    → list_any (λ one. carries claim one.method one.status one.body) (map answer_seen window) ≡ list_any (carries_answer claim) window
-unfolding carries_answer
-any_seen claim [] = refl
-any_seen claim (answer ∷ window) = ap (λ (b : Bool). carries_answer claim answer || b) (any_seen claim window)
-
--- the window tells whether the reply carries a response of it
-pub window_tells : (claim : Claim) (mark : Mark) (window : List WindowResponse) (h : List Item) (b : Bool) → window ≡ responses_since claim.format claim.exchange claim.target claim.since h
-    → b ≡ carried_by claim.format mark (list_any (λ one. carries claim one.method one.status one.body) window) → carried_by claim.format mark (is_forwarded claim h) ≡ b
-window_tells claim mark window h b are is =
-    ap (carried_by claim.format mark) (carried claim h ∙ ap (list_any (λ one. carries claim one.method one.status one.body)) (sym are)) ∙ sym is
-
--- the answers tell what is seen of them
-pub answers_tell : (claim : Claim) (mark : Mark) (window : List WindowAnswer) (b : Bool)
-    → b ≡ carried_by claim.format mark (list_any (λ answer. carries claim answer.method answer.status answer.body) window)
-    → b ≡ carried_by claim.format mark (list_any (λ one. carries claim one.method one.status one.body) (map answer_seen window))
-unfolding carries_answer
-answers_tell claim mark window b is = is ∙ ap (carried_by claim.format mark) (sym (any_seen claim window))
-
--- the answers of a pool tell those of them that may be for the exchange
-any_told : (claim : Claim) (answers : List ToldResponse)
-    → list_any (λ one. carries claim one.method one.status one.body) (those_for claim.exchange answers) ≡ list_any (carries_told claim) answers
-any_told claim [] = refl
-any_told claim (x ∷ answers) = go (may_be_for x.cause claim.exchange) (any_told claim answers)
-  where
-    go : (may : Bool) → list_any (λ one. carries claim one.method one.status one.body) (those_for claim.exchange answers) ≡ list_any (carries_told claim) answers
-        → list_any (λ one. carries claim one.method one.status one.body)
-        (map (λ (one : ToldResponse). one.response) (cond may (x ∷ filter (λ (one : ToldResponse). may_be_for one.cause claim.exchange) answers) (filter (λ (one : ToldResponse). may_be_for one.cause claim.exchange) answers)))
-        ≡ ((may && carries claim x.response.method x.response.status x.response.body) || list_any (carries_told claim) answers)
-    go true more = ap (λ (b : Bool). carries claim x.response.method x.response.status x.response.body || b) more
-    go false more = more
-
-pub pool_tells : (claim : Claim) (mark : Mark) (answers : List ToldResponse) (b : Bool) → b ≡ carried_by claim.format mark (list_any (carries_told claim) answers)
-    → b ≡ carried_by claim.format mark (list_any (λ one. carries claim one.method one.status one.body) (those_for claim.exchange answers))
-pool_tells claim mark answers b is = is ∙ ap (carried_by claim.format mark) (sym (any_told claim answers))
-
 -- ---- what is found
 
 -- what is found of a claim that is the reply's, is found of the reply
@@ -316,36 +268,30 @@ found_of_none format seen settings number moment reply h found one none =
     anything (Ok f) = tt
     anything (Err f) = tt
 
--- ---- maps
-
--- what is found by what is kept of the exchange's target
-pub found_at_target : (format : Format) (index : MapIndex) (settings : Settings) (number moment : ℕ) (reply : Message ResponseHead) (h : List Item)
-    (pooled : PooledExchange) (here : AtTarget) (mark : Mark) (claim : Claim) (found : Result Finding AllocError)
-    → IsSeenAs format (seen_in index) h → Some pooled ≡ get nat_cmp index.exchanges number → Some here ≡ get by_target index.targets pooled.exchange.target
-    → (exchange_of number h ≡ Some (exchange_seen pooled.exchange) → mark ≡ mark_to format settings (Some (exchange_seen pooled.exchange)) reply h)
-    → (exchange_of number h ≡ Some (exchange_seen pooled.exchange) → claim ≡ claim_of format settings (exchange_seen pooled.exchange) moment reply h)
-    → (live_in claim.target here.lives.items ≡ live_of claim.target h → those_for claim.exchange (answers_behind pooled.behind here.pool) ≡ responses_since claim.format claim.exchange claim.target claim.since h
+-- what is found of a claim that is the reply's, by what was lent of its exchange
+pub found_of_lent : (format : Format) (seen : Seen) (settings : Settings) (number moment : ℕ) (reply : Message ResponseHead) (h : List Item)
+    (opened : Opened) (mark : Mark) (claim : Claim) (found : Result Finding AllocError)
+    → IsSeenAs format seen h → IsLent false seen number (Some opened)
+    → (exchange_of number h ≡ Some (exchange_seen opened.exchange.now) → mark ≡ mark_to format settings (Some (exchange_seen opened.exchange.now)) reply h)
+    → (Lends seen number opened → claim ≡ claim_of format settings (exchange_seen opened.exchange.now) moment reply h)
+    → (live_in claim.target opened.lives.now ≡ live_of claim.target h
+    → those_for claim.exchange (answers_lent opened) ≡ responses_since claim.format claim.exchange claim.target claim.since h
     → IfOk found (IsFoundBy mark claim h))
     → IfOk found (IsFinding format settings (exchange_of number h) moment reply h)
-found_at_target format index settings number moment reply h pooled here mark claim found one is here-is mark-told claim-told by =
-    go (is_open pooled.behind number here.pool) refl
-  where
-    go : (b : Bool) → is_open pooled.behind number here.pool ≡ b → IfOk found (IsFinding format settings (exchange_of number h) moment reply h)
-    go true there =
-        let known : Some pooled ≡ known_in index.targets number (get nat_cmp index.exchanges number) =
-        sym (ap (known_in index.targets number) (sym is)
-        ∙ ap (λ (o : Option AtTarget). cond (open_kept pooled.behind number o) (Some pooled) None) (sym here-is)
-        ∙ ap (λ (b : Bool). cond b (Some pooled) None) there) in
-        let claim-is = claim-told (sym (one.exchange number) ∙ sym (ap pooled_exchange known)) in
-        let at_target : Some here ≡ get by_target index.targets claim.target =
-        here-is ∙ ap (λ (k : Claim). get by_target index.targets k.target) (sym claim-is) in
-        found_of_reply format (seen_in index) settings number moment reply h (exchange_seen pooled.exchange) mark claim found one (ap pooled_exchange known) mark-told claim-told
-        (λ live window. by (ap (live_kept claim.target) at_target ∙ live)
-        (ap (λ (k : Claim). those_for k.exchange (answers_behind pooled.behind here.pool)) claim-is
-        ∙ ap (λ (o : Option AtTarget). those_for pooled.exchange.number (window_kept pooled.behind o)) here-is ∙ ap (window_in index.targets) known ∙ window))
-    go false there =
-        let unknown : known_in index.targets number (get nat_cmp index.exchanges number) ≡ None =
-        ap (known_in index.targets number) (sym is)
-        ∙ ap (λ (o : Option AtTarget). cond (open_kept pooled.behind number o) (Some pooled) None) (sym here-is)
-        ∙ ap (λ (b : Bool). cond b (Some pooled) None) there in
-        found_of_none format (seen_in index) settings number moment reply h found one (ap pooled_exchange unknown)
+found_of_lent format seen settings number moment reply h opened mark claim found one (inl none) mark-told claim-told by =
+    found_of_none format seen settings number moment reply h found one none.1
+found_of_lent format seen settings number moment reply h opened mark claim found one (inr lends) mark-told claim-told by =
+    let claim-is = claim-told lends in
+    found_of_reply format seen settings number moment reply h (exchange_seen opened.exchange.now) mark claim found one (sym lends.is_open) mark-told (λ there. claim-is)
+    (λ live window. by (subst (λ (k : Claim). live_in k.target opened.lives.now ≡ seen.live k.target) (sym claim-is) lends.live ∙ live)
+    (subst (λ (k : Claim). those_for k.exchange (answers_lent opened) ≡ seen.window number) (sym claim-is) lends.window ∙ window))
+
+-- what it claims, where it is surely open
+pub claimed_of_lent : (format : Format) (seen : Seen) (settings : Settings) (number moment : ℕ) (reply : Message ResponseHead) (h : List Item) (opened : Opened) (claim : Claim)
+    → IsSeenAs format seen h → IsLent true seen number (Some opened)
+    → (Lends seen number opened → claim ≡ claim_of format settings (exchange_seen opened.exchange.now) moment reply h)
+    → Some claim ≡ option_map (λ (exchange : Exchange). claim_of format settings exchange moment reply h) (exchange_of number h)
+claimed_of_lent format seen settings number moment reply h opened claim one (inl none) told = absurd (let e = none.0 in cc)
+claimed_of_lent format seen settings number moment reply h opened claim one (inr lends) told =
+    ap Some (told lends)
+    ∙ ap (option_map (λ (exchange : Exchange). claim_of format settings exchange moment reply h)) (sym lends.is_open ∙ one.exchange number)

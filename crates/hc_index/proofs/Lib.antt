@@ -5,7 +5,8 @@ pub mod NoteLemmas
 pub mod PositionLemmas
 pub mod FindLemmas
 pub mod CandidateLemmas
+pub mod WindowLemmas
 pub mod PoolLemmas
 pub mod TargetsLemmas
 pub mod MapLemmas
-pub mod SentLemmas
+pub mod ForwardLemmas

@@ -1,9 +1,7 @@
 -- What each kind of item makes of maps.
-use Rattle.std.proofs.Common.{◌≡◌, ℕ, Bool, true, false, ◌&&◌, cond, eqb, List, [], ◌∷◌, ◌++◌, filter, Option, Some, None, map, refl, sym, ap, subst, ◌∙◌, inl, inr, eq-eqb, ne_eqb}
-use Rattle.std.specs.Option.{option_map}
+use Rattle.std.proofs.Common.{◌≡◌, ◌⊎◌, ℕ, Bool, true, false, not, ◌&&◌, ◌||◌, cond, eqb, List, [], ◌∷◌, ◌++◌, Option, Some, None, map, refl, sym, ap, subst, ◌∙◌, inl, inr, eq-eqb, ne_eqb}
 use Rattle.std.specs.Ordering.{nat_cmp}
 use Rattle.std.specs.BTreeMap.{BTreeMap, get}
-use Rattle.std.specs.BTreeSet.{BTreeSet, contains}
 use Rattle.std.proofs.lemmas.Bool.{cases_eq}
 use Rattle.std.proofs.lemmas.List.{append-nil}
 use Rattle.hc_head.specs.declared.head.RequestHead.{RequestHead}
@@ -25,9 +23,11 @@ use Rattle.hc_index.specs.declared.kept.RecordedForward.{RecordedForward}
 use Rattle.hc_index.specs.declared.kept.PooledExchange.{PooledExchange}
 use Rattle.hc_index.specs.declared.at_target.AtTarget.{AtTarget}
 use Rattle.hc_index.specs.declared.map_index.MapIndex.{MapIndex}
-use Rattle.hc_index.specs.Lists.{by_target, exchange_seen, forward_seen, cause_seen}
-use Rattle.hc_index.specs.Maps.{ToldResponse, those_for, Targets, ChangesAt, OpensAt, ClosesAt, FailsAt, AnswersAt, answer_to, live_kept, error_kept, failure_kept, open_kept, window_kept, known_in, pooled_exchange, window_in, seen_in}
-use Rattle.hc_index.proofs.NoteLemmas.{ReplacesForward, forward_replaced, cause_replaced}
+use Rattle.hc_index.specs.Forwards.{BeginsAnew, Takes}
+use Rattle.hc_index.specs.Lists.{by_target, exchange_seen, forward_seen}
+use Rattle.hc_index.specs.Windows.{ToldResponse, those_for, answer_to}
+use Rattle.hc_index.specs.Maps.{Targets, ChangesAt, OpensAt, ClosesAt, FailsAt, AnswersAt, is_open, live_kept, error_kept, failure_kept, open_kept, window_kept, known_in, open_in, pooled_exchange, window_in, seen_in}
+use Rattle.hc_index.proofs.WindowLemmas.{added_for, added_is, those_append}
 
 -- ---- what is told of a target, where one changed
 
@@ -101,8 +101,7 @@ window_stays e old new keeps (Some x) =
 pub record Asks (old : MapIndex) (number : ℕ) (x : PooledExchange) (new : MapIndex) : Type 0 where
   pub exchanges : (e : ℕ) → get nat_cmp new.exchanges e ≡ cond (eqb number e) (Some x) (get nat_cmp old.exchanges e)
   pub targets : ChangesAt x.exchange.target old.targets new.targets (OpensAt x.exchange.target number x.behind)
-  pub forwards : new.forwards ≡ old.forwards
-  pub forwarded : (e : ℕ) → contains nat_cmp new.forwarded e ≡ cond (eqb number e) false (contains nat_cmp old.forwarded e)
+  pub forwards : BeginsAnew number old.forwards new.forwards
 
 keeps_others : (number e behind : ℕ) (target : Target) (old new : Targets) → (e ≡ number → ⊥) → ChangesAt target old new (OpensAt target number behind) → KeepsWindow e old new
 keeps_others number e behind target old new ne changes =
@@ -145,10 +144,10 @@ notes_request format old number position moment request x new asks is =
       live = λ t. same_at target t old.targets new.targets R live_kept asks.targets (λ o n opens. opens.live);
       exchange = λ e. asked_exchange old number x new asks e
           ∙ ap (λ (exchange : Exchange). cond (eqb number e) (Some exchange) (pooled_exchange (known_in old.targets e (get nat_cmp old.exchanges e)))) is;
-      forward = λ f. ap (λ (m : BTreeMap ℕ RecordedForward). option_map forward_seen (get nat_cmp m f)) asks.forwards;
-      cause = λ f. ap (λ (m : BTreeMap ℕ RecordedForward). cause_seen (get nat_cmp m f)) asks.forwards;
+      forward = asks.forwards.forward;
+      cause = asks.forwards.cause;
       window = asked_window old number x new asks;
-      has_forward = asks.forwarded;
+      has_forward = asks.forwards.has_forward;
       error = λ t. same_at target t old.targets new.targets R (λ k. error_kept) asks.targets (λ o n opens. opens.error);
       failure = λ t. same_at target t old.targets new.targets R (λ k. failure_kept) asks.targets (λ o n opens. opens.failure);
     }
@@ -159,8 +158,7 @@ notes_request format old number position moment request x new asks is =
 pub record Replies (old : MapIndex) (number : ℕ) (target : Target) (new : MapIndex) : Type 0 where
   pub exchanges : (e : ℕ) → get nat_cmp new.exchanges e ≡ cond (eqb number e) None (get nat_cmp old.exchanges e)
   pub targets : ChangesAt target old.targets new.targets (ClosesAt target number)
-  pub forwards : new.forwards ≡ old.forwards
-  pub forwarded : (e : ℕ) → contains nat_cmp new.forwarded e ≡ cond (eqb number e) false (contains nat_cmp old.forwarded e)
+  pub forwards : BeginsAnew number old.forwards new.forwards
 
 keeps_open : (number e : ℕ) (target : Target) (old new : Targets) → (e ≡ number → ⊥) → ChangesAt target old new (ClosesAt target number) → KeepsWindow e old new
 keeps_open number e target old new ne changes =
@@ -195,10 +193,10 @@ notes_reply format old number position moment reply target new replies =
     record {
       live = λ t. same_at target t old.targets new.targets R live_kept replies.targets (λ o n closes. closes.live);
       exchange = replied_exchange old number target new replies;
-      forward = λ f. ap (λ (m : BTreeMap ℕ RecordedForward). option_map forward_seen (get nat_cmp m f)) replies.forwards;
-      cause = λ f. ap (λ (m : BTreeMap ℕ RecordedForward). cause_seen (get nat_cmp m f)) replies.forwards;
+      forward = replies.forwards.forward;
+      cause = replies.forwards.cause;
       window = replied_window old number target new replies;
-      has_forward = replies.forwarded;
+      has_forward = replies.forwards.has_forward;
       error = λ t. same_at target t old.targets new.targets R (λ k. error_kept) replies.targets (λ o n closes. closes.error);
       failure = λ t. same_at target t old.targets new.targets R (λ k. failure_kept) replies.targets (λ o n closes. closes.failure);
     }
@@ -207,28 +205,26 @@ notes_reply format old number position moment reply target new replies =
 
 -- what a failure of an open forward makes of all that is kept
 pub record Fails (old : MapIndex) (forward : RecordedForward) (number position : ℕ) (new : MapIndex) : Type 0 where
-  pub was_open : get nat_cmp old.forwards number ≡ Some forward
-  pub forwards : ReplacesForward number None old.forwards new.forwards
+  pub forwards : Takes number (Some forward) old.forwards new.forwards
   pub targets : ChangesAt forward.target old.targets new.targets (FailsAt forward.target position)
   pub exchanges : new.exchanges ≡ old.exchanges
-  pub forwarded : new.forwarded ≡ old.forwarded
 
 pub notes_failure : (format : Format) (old : MapIndex) (forward : RecordedForward) (number position moment : ℕ) (new : MapIndex) → Fails old forward number position new
     → Notes format (seen_in old) position (OriginFailure number moment) (seen_in new)
 notes_failure format old forward number position moment new fails =
     let target = forward.target in
     let R = FailsAt target position in
-    let is : Some (forward_seen forward) ≡ option_map forward_seen (get nat_cmp old.forwards number) = sym (ap (option_map forward_seen) fails.was_open) in
+    let is = fails.forwards.was_open in
     let keeps : (e : ℕ) → KeepsWindow e old.targets new.targets = λ e. keeps_window e target old.targets new.targets R fails.targets (λ b o n f. (f.others b e, f.windows b e)) in
     record {
       live = λ t. same_at target t old.targets new.targets R live_kept fails.targets (λ o n f. f.live);
       exchange = λ e. ap (λ (m : BTreeMap ℕ PooledExchange). pooled_exchange (known_in new.targets e (get nat_cmp m e))) fails.exchanges
           ∙ ap pooled_exchange (known_stays e old.targets new.targets (keeps e) (get nat_cmp old.exchanges e));
-      forward = forward_replaced number None old.forwards new.forwards fails.forwards;
-      cause = cause_replaced number None old.forwards new.forwards fails.forwards;
+      forward = fails.forwards.forward;
+      cause = fails.forwards.cause;
       window = λ e. ap (λ (m : BTreeMap ℕ PooledExchange). window_in new.targets (known_in new.targets e (get nat_cmp m e))) fails.exchanges
           ∙ window_stays e old.targets new.targets (keeps e) (get nat_cmp old.exchanges e);
-      has_forward = λ e. ap (λ (s : BTreeSet ℕ). contains nat_cmp s e) fails.forwarded;
+      has_forward = fails.forwards.has_forward;
       error = λ t. same_at target t old.targets new.targets R (λ k. error_kept) fails.targets (λ o n f. f.error);
       failure = λ t. changed_at target t old.targets new.targets R (λ k. failure_kept) (λ k o. position) fails.targets (λ o n f. f.failure)
           ∙ ap (λ (o : Option Forward). cond (is_forward_of t o) position (failure_kept (get by_target old.targets t))) is;
@@ -238,15 +234,9 @@ notes_failure format old forward number position moment new fails =
 
 -- what a response to an open forward makes of all that is kept
 pub record Answers (format : Format) (old : MapIndex) (forward : RecordedForward) (number position moment : ℕ) (response : Message ResponseHead) (new : MapIndex) : Type 0 where
-  pub was_open : get nat_cmp old.forwards number ≡ Some forward
-  pub forwards : ReplacesForward number None old.forwards new.forwards
+  pub forwards : Takes number (Some forward) old.forwards new.forwards
   pub targets : ChangesAt forward.target old.targets new.targets (AnswersAt (forward_seen forward) (told_in format forward.cause) position moment response)
   pub exchanges : new.exchanges ≡ old.exchanges
-  pub forwarded : new.forwarded ≡ old.forwarded
-
--- what the response adds to the answers for a target
-abbrev added_for : Target → Forward → ToldCause → Message ResponseHead → List ToldResponse
-added_for t forward cause response = cond (same_target forward.target t) (answer_to forward cause response ∷ []) []
 
 -- the answers behind the exchange of a number grow by the response
 abbrev GrowsWindow : ℕ → Forward → ToldCause → Message ResponseHead → Targets → Targets → Type 0
@@ -279,31 +269,6 @@ known_stays_open : (e : ℕ) (forward : Forward) (cause : ToldCause) (response :
 known_stays_open e forward cause response old new grows None = refl
 known_stays_open e forward cause response old new grows (Some x) = ap (λ (b : Bool). cond b (Some x) None) (grows x.exchange.target x.behind).0
 
--- of more answers those for an exchange are more by those for it
-those_append : (e : ℕ) (xs ys : List ToldResponse) → those_for e (xs ++ ys) ≡ those_for e xs ++ those_for e ys
-those_append e [] ys = refl
-those_append e (x ∷ xs) ys = go (may_be_for x.cause e) (those_append e xs ys)
-  where
-    go : (may : Bool) → those_for e (xs ++ ys) ≡ those_for e xs ++ those_for e ys
-        → map (λ (one : ToldResponse). one.response) (cond may (x ∷ filter (λ (one : ToldResponse). may_be_for one.cause e) (xs ++ ys)) (filter (λ (one : ToldResponse). may_be_for one.cause e) (xs ++ ys)))
-        ≡ map (λ (one : ToldResponse). one.response) (cond may (x ∷ filter (λ (one : ToldResponse). may_be_for one.cause e) xs) (filter (λ (one : ToldResponse). may_be_for one.cause e) xs)) ++ those_for e ys
-    go true more = ap (λ (rest : List WindowResponse). x.response ∷ rest) more
-    go false more = more
-
--- what it adds for an exchange
-added_is : (format : Format) (x : PooledExchange) (forward : Forward) (cause : Option ℕ) (response : Message ResponseHead)
-    → those_for x.exchange.number (added_for x.exchange.target forward (told_in format cause) response)
-    ≡ added_to_window format (Some (exchange_seen x.exchange)) (Some forward) cause response
-added_is format x forward cause response = go (same_target forward.target x.exchange.target) (may_be_for (told_in format cause) x.exchange.number) refl
-  where
-    go : (same may : Bool) → may_be_for (told_in format cause) x.exchange.number ≡ may
-        → those_for x.exchange.number (cond same (answer_to forward (told_in format cause) response ∷ []) [])
-        ≡ cond may (cond same ((answer_to forward (told_in format cause) response).response ∷ []) []) []
-    go true true is = rw is refl
-    go true false is = rw is refl
-    go false true is = refl
-    go false false is = refl
-
 window_grown_if : (format : Format) (new old : Targets) (x : PooledExchange) (forward : Forward) (cause : Option ℕ) (response : Message ResponseHead) (b c : Bool) → c ≡ b
     → (b ≡ true → window_kept x.behind (get by_target new x.exchange.target)
     ≡ window_kept x.behind (get by_target old x.exchange.target) ++ added_for x.exchange.target forward (told_in format cause) response)
@@ -312,7 +277,8 @@ window_grown_if format new old x forward cause response true true is grown =
     let before = window_kept x.behind (get by_target old x.exchange.target) in
     ap (those_for x.exchange.number) (grown refl)
     ∙ those_append x.exchange.number before (added_for x.exchange.target forward (told_in format cause) response)
-    ∙ ap (λ (added : List WindowResponse). those_for x.exchange.number before ++ added) (added_is format x forward cause response)
+    ∙ ap (λ (added : List WindowResponse). those_for x.exchange.number before ++ added)
+    (added_is x.exchange.number x.exchange.target forward (told_in format cause) response)
 window_grown_if format new old x forward cause response true false is grown = absurd (let e = is in cc)
 window_grown_if format new old x forward cause response false true is grown = absurd (let e = is in cc)
 window_grown_if format new old x forward cause response false false is grown = refl
@@ -337,8 +303,8 @@ notes_response format old forward number position moment response new answers =
     let seen = forward_seen forward in
     let told = told_in format forward.cause in
     let R = AnswersAt seen told position moment response in
-    let is : Some seen ≡ option_map forward_seen (get nat_cmp old.forwards number) = sym (ap (option_map forward_seen) answers.was_open) in
-    let cause : forward.cause ≡ cause_seen (get nat_cmp old.forwards number) = sym (ap cause_seen answers.was_open) in
+    let is = answers.forwards.was_open in
+    let cause = answers.forwards.its_cause in
     let grows : (e : ℕ) → GrowsWindow e seen told response old.targets new.targets = λ e. grows_window e seen told position moment response old.targets new.targets answers.targets in
     record {
       live = λ t. changed_at forward.target t old.targets new.targets R live_kept
@@ -346,16 +312,47 @@ notes_response format old forward number position moment response new answers =
           ∙ ap (λ (o : Option Forward). lives_answered t o position moment response (live_kept t (get by_target old.targets t))) is;
       exchange = λ e. ap (λ (m : BTreeMap ℕ PooledExchange). pooled_exchange (known_in new.targets e (get nat_cmp m e))) answers.exchanges
           ∙ ap pooled_exchange (known_stays_open e seen told response old.targets new.targets (grows e) (get nat_cmp old.exchanges e));
-      forward = forward_replaced number None old.forwards new.forwards answers.forwards;
-      cause = cause_replaced number None old.forwards new.forwards answers.forwards;
+      forward = answers.forwards.forward;
+      cause = answers.forwards.cause;
       window = λ e. ap (λ (m : BTreeMap ℕ PooledExchange). window_in new.targets (known_in new.targets e (get nat_cmp m e))) answers.exchanges
           ∙ window_grows format e seen forward.cause response old.targets new.targets (grows e) (get nat_cmp old.exchanges e)
           ∙ (λ i. window_in old.targets (known_in old.targets e (get nat_cmp old.exchanges e))
           ++ added_to_window format (pooled_exchange (known_in old.targets e (get nat_cmp old.exchanges e))) (is i) (cause i) response);
-      has_forward = λ e. ap (λ (s : BTreeSet ℕ). contains nat_cmp s e) answers.forwarded;
+      has_forward = answers.forwards.has_forward;
       error = λ t. changed_at forward.target t old.targets new.targets R (λ k. error_kept)
           (λ k o. cond (is_error_status response.head.status) position (error_kept o)) answers.targets (λ o n a. a.error)
           ∙ two_tests (is_error_status response.head.status) (same_target forward.target t) position (error_kept (get by_target old.targets t))
           ∙ ap (λ (o : Option Forward). cond (is_error_status response.head.status && is_forward_of t o) position (error_kept (get by_target old.targets t))) is;
       failure = λ t. same_at forward.target t old.targets new.targets R (λ k. failure_kept) answers.targets (λ o n a. a.failure);
     }
+
+-- ---- what is lent
+
+-- the exchange of a number is open, as far as its target knows
+known_at : (index : MapIndex) (number : ℕ) (x : PooledExchange) (here : AtTarget) (b : Bool) → Some x ≡ get nat_cmp index.exchanges number
+    → Some here ≡ get by_target index.targets x.exchange.target → is_open x.behind number here.pool ≡ b → open_in index number ≡ cond b (Some x) None
+known_at index number x here b is here-is there =
+    ap (known_in index.targets number) (sym is)
+    ∙ ap (λ (o : Option AtTarget). cond (open_kept x.behind number o) (Some x) None) (sym here-is)
+    ∙ ap (λ (there : Bool). cond there (Some x) None) there
+
+pub none_known : (surely : Bool) (index : MapIndex) (number : ℕ) (x : PooledExchange) (here : AtTarget) → Some x ≡ get nat_cmp index.exchanges number
+    → Some here ≡ get by_target index.targets x.exchange.target → (not surely || is_open x.behind number here.pool) ≡ false
+    → pooled_exchange (open_in index number) ≡ None
+none_known surely index number x here is here-is closed =
+    ap pooled_exchange (known_at index number x here false is here-is (neither surely (is_open x.behind number here.pool) closed))
+  where
+    neither : (a b : Bool) → (not a || b) ≡ false → b ≡ false
+    neither true b closed = closed
+    neither false b closed = absurd (let e = closed in cc)
+
+pub known_or_unsure : (surely : Bool) (index : MapIndex) (number : ℕ) (x : PooledExchange) (here : AtTarget) → Some x ≡ get nat_cmp index.exchanges number
+    → Some here ≡ get by_target index.targets x.exchange.target → (not surely || is_open x.behind number here.pool) ≡ true
+    → ((surely ≡ false) × (pooled_exchange (open_in index number) ≡ None)) ⊎ (open_in index number ≡ Some x)
+known_or_unsure surely index number x here is here-is may = go surely (is_open x.behind number here.pool) refl may
+  where
+    go : (a b : Bool) → is_open x.behind number here.pool ≡ b → (not a || b) ≡ true
+        → ((a ≡ false) × (pooled_exchange (open_in index number) ≡ None)) ⊎ (open_in index number ≡ Some x)
+    go a true there may = inr (known_at index number x here true is here-is there)
+    go false false there may = inl (refl, ap pooled_exchange (known_at index number x here false is here-is there))
+    go true false there may = absurd (let e = may in cc)

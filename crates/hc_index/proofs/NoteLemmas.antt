@@ -1,9 +1,5 @@
 -- What each kind of item makes of plain lists.
-use Rattle.std.proofs.Common.{◌≡◌, ℕ, Bool, true, false, ◌&&◌, cond, eqb, List, [], ◌++◌, Option, Some, None, map, refl, ap, sym, ◌∙◌}
-use Rattle.std.specs.Option.{option_map}
-use Rattle.std.specs.Ordering.{nat_cmp}
-use Rattle.std.specs.BTreeMap.{BTreeMap, get}
-use Rattle.std.specs.BTreeSet.{BTreeSet, contains}
+use Rattle.std.proofs.Common.{◌≡◌, ℕ, Bool, true, false, ◌&&◌, cond, List, [], ◌++◌, Option, Some, None, map, refl, ap, ◌∙◌}
 use Rattle.std.proofs.lemmas.List.{append-nil}
 use Rattle.hc_head.specs.declared.head.ResponseHead.{ResponseHead}
 use Rattle.hc_head.specs.declared.head.Target.{Target}
@@ -22,33 +18,10 @@ use Rattle.hc_history.specs.Noting.{live_answered, lives_answered, added_to_wind
 use Rattle.hc_index.specs.declared.kept.LiveResponse.{LiveResponse}
 use Rattle.hc_index.specs.declared.kept.RecordedForward.{RecordedForward}
 use Rattle.hc_index.specs.declared.list_index.ListIndex.{ListIndex}
-use Rattle.hc_index.specs.Lists.{watched_exchange, forward_seen, cause_seen, live_in, open_in, window_of, position_in, watched, watched_answered, targeted, targeted_answered, seen_in}
+use Rattle.hc_index.specs.Forwards.{Takes}
+use Rattle.hc_index.specs.Lists.{watched_exchange, forward_seen, live_in, open_in, window_of, position_in, watched, watched_answered, targeted, targeted_answered, seen_in}
 use Rattle.hc_index.proofs.OpenLemmas.{exchange_answered, window_answered}
 use Rattle.hc_index.proofs.LiveLemmas.{lives_answered_in}
-
--- ---- forwards
-
-forward_if : (b : Bool) (x o : Option RecordedForward) → option_map forward_seen (cond b x o) ≡ cond b (option_map forward_seen x) (option_map forward_seen o)
-forward_if true x o = refl
-forward_if false x o = refl
-
--- the forwards before and after, where the one of a number was replaced
-abbrev pub ReplacesForward : ℕ → Option RecordedForward → BTreeMap ℕ RecordedForward → BTreeMap ℕ RecordedForward → Type 0
-ReplacesForward number x old new = (f : ℕ) → get nat_cmp new f ≡ cond (eqb number f) x (get nat_cmp old f)
-
-pub forward_replaced : (number : ℕ) (x : Option RecordedForward) (old new : BTreeMap ℕ RecordedForward) → ReplacesForward number x old new
-    → (f : ℕ) → option_map forward_seen (get nat_cmp new f) ≡ cond (eqb number f) (option_map forward_seen x) (option_map forward_seen (get nat_cmp old f))
-forward_replaced number x old new is f = ap (option_map forward_seen) (is f) ∙ forward_if (eqb number f) x (get nat_cmp old f)
-
-cause_if : (b : Bool) (x o : Option RecordedForward) → cause_seen (cond b x o) ≡ cond b (cause_seen x) (cause_seen o)
-cause_if true x o = refl
-cause_if false x o = refl
-
-pub cause_replaced : (number : ℕ) (x : Option RecordedForward) (old new : BTreeMap ℕ RecordedForward) → ReplacesForward number x old new
-    → (f : ℕ) → cause_seen (get nat_cmp new f) ≡ cond (eqb number f) (cause_seen x) (cause_seen (get nat_cmp old f))
-cause_replaced number x old new is f = ap cause_seen (is f) ∙ cause_if (eqb number f) x (get nat_cmp old f)
-
--- ---- a response
 
 -- what a response to a forward of another target begins isn't of this one
 begun_elsewhere : (target : Target) (forward : Forward) (position moment : ℕ) (response : Message ResponseHead) (stores : Bool) → same_target forward.target target ≡ false
@@ -65,21 +38,19 @@ answered_and_begun false target forward position moment response lives is =
 
 -- what a response to an open forward makes of all that is kept
 pub record Answers (format : Format) (old : ListIndex) (forward : RecordedForward) (number position moment : ℕ) (response : Message ResponseHead) (mid : List LiveResponse) (new : ListIndex) : Type 0 where
-  pub was_open : get nat_cmp old.forwards number ≡ Some forward
-  pub forwards : ReplacesForward number None old.forwards new.forwards
+  pub forwards : Takes number (Some forward) old.forwards new.forwards
   pub errors : (target : Target) → position_in target new.errors
       ≡ cond (is_error_status response.head.status && same_target forward.target target) position (position_in target old.errors)
   pub exchanges : map watched new.exchanges.items ≡ map (watched_answered (forward_seen forward) (told_in format forward.cause) response) (map watched old.exchanges.items)
   pub answered : map targeted mid ≡ map (targeted_answered (forward_seen forward) position moment response) (map targeted old.lives.items)
   pub begun : (target : Target) → live_in target new.lives.items ≡ live_in target mid ++ live_at target position (begun_by (forward_seen forward) moment response)
   pub failures : new.failures ≡ old.failures
-  pub forwarded : new.forwarded ≡ old.forwarded
 
 pub notes_answer : (format : Format) (old new : ListIndex) (forward : RecordedForward) (number position moment : ℕ) (response : Message ResponseHead) (mid : List LiveResponse)
     → Answers format old forward number position moment response mid new → Notes format (seen_in old) position (OriginResponse number moment response) (seen_in new)
 notes_answer format old new forward number position moment response mid a =
-    let is : Some (forward_seen forward) ≡ option_map forward_seen (get nat_cmp old.forwards number) = sym (ap (option_map forward_seen) a.was_open) in
-    let cause : forward.cause ≡ cause_seen (get nat_cmp old.forwards number) = sym (ap cause_seen a.was_open) in
+    let is = a.forwards.was_open in
+    let cause = a.forwards.its_cause in
     record {
       live = λ target. a.begun target
           ∙ ap (λ (ls : List Live). ls ++ live_at target position (begun_by (forward_seen forward) moment response))
@@ -87,11 +58,11 @@ notes_answer format old new forward number position moment response mid a =
           ∙ answered_and_begun (same_target forward.target target) target (forward_seen forward) position moment response (live_in target old.lives.items) refl
           ∙ ap (λ (o : Option Forward). lives_answered target o position moment response (live_in target old.lives.items)) is;
       exchange = λ e. exchange_answered (forward_seen forward) (told_in format forward.cause) response e old.exchanges.items new.exchanges.items a.exchanges;
-      forward = forward_replaced number None old.forwards new.forwards a.forwards;
-      cause = cause_replaced number None old.forwards new.forwards a.forwards;
+      forward = a.forwards.forward;
+      cause = a.forwards.cause;
       window = λ e. window_answered format (forward_seen forward) forward.cause response e old.exchanges.items new.exchanges.items a.exchanges
           ∙ (λ i. window_of (open_in e old.exchanges.items) ++ added_to_window format (watched_exchange (open_in e old.exchanges.items)) (is i) (cause i) response);
-      has_forward = λ e. ap (λ (s : BTreeSet ℕ). contains nat_cmp s e) a.forwarded;
+      has_forward = a.forwards.has_forward;
       error = λ target. a.errors target
           ∙ ap (λ (o : Option Forward). cond (is_error_status response.head.status && is_forward_of target o) position (position_in target old.errors)) is;
       failure = λ target. ap (position_in target) a.failures;

@@ -14,7 +14,8 @@ use Rattle.hc_head.proofs.SameTargetLemmas.{same_target_itself}
 use Rattle.hc_index.specs.declared.kept.LiveResponse.{LiveResponse}
 use Rattle.hc_index.specs.declared.at_target.AtTarget.{AtTarget}
 use Rattle.hc_index.specs.Lists.{by_target, live_in, targeted, targeted_answered}
-use Rattle.hc_index.specs.Maps.{ToldResponse, KeepsSame, OpensAt, ClosesAt, FailsAt, AnswersAt, ChangesAt, Targets, answer_to}
+use Rattle.hc_index.specs.Windows.{ToldResponse, answer_to}
+use Rattle.hc_index.specs.Maps.{KeepsSame, OpensAt, ClosesAt, FailsAt, AnswersAt, ChangesAt, Targets}
 use Rattle.hc_index.proofs.LiveLemmas.{lives_answered_in}
 use Rattle.hc_index.proofs.PositionLemmas.{tied}
 

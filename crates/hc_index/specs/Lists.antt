@@ -29,25 +29,23 @@ use Rattle.hc_history.specs.Noting.{live_answered}
 use Rattle.hc_history.specs.Right.{is_judged_collapsed}
 use Rattle.hc_history.specs.Seen.{Live, WindowResponse, response_to, Seen}
 use Rattle.hc_index.specs.declared.kept.LiveResponse.{LiveResponse}
-use Rattle.hc_index.specs.declared.kept.WindowAnswer.{WindowAnswer}
 use Rattle.hc_index.specs.declared.kept.RecordedExchange.{RecordedExchange}
 use Rattle.hc_index.specs.declared.kept.WatchedExchange.{WatchedExchange}
 use Rattle.hc_index.specs.declared.kept.RecordedForward.{RecordedForward}
+use Rattle.hc_index.specs.declared.forwards.OpenForwards.{OpenForwards}
 use Rattle.hc_index.specs.declared.list_index.ListIndex.{ListIndex}
+use Rattle.hc_index.specs.Windows.{told_seen, those_for}
 
 -- ---- each thing that is kept
 
 abbrev pub live_seen : LiveResponse → Live
 live_seen live = record { position = live.position; state = live.state }
 
-abbrev pub answer_seen : WindowAnswer → WindowResponse
-answer_seen answer = record { method = answer.method; status = answer.status; body = answer.body }
-
 abbrev pub exchange_seen : RecordedExchange → Exchange
 exchange_seen exchange = record { number = exchange.number; position = exchange.position; request = exchange.request; target = exchange.target }
 
 abbrev pub window_seen : WatchedExchange → List WindowResponse
-window_seen watched = map answer_seen watched.window.items
+window_seen watched = those_for watched.exchange.number (map told_seen watched.window.items)
 
 abbrev pub forward_seen : RecordedForward → Forward
 forward_seen forward = record { moment = forward.moment; request = forward.request; target = forward.target }
@@ -56,6 +54,19 @@ forward_seen forward = record { moment = forward.moment; request = forward.reque
 abbrev pub cause_seen : Option RecordedForward → Option ℕ
 cause_seen None = None
 cause_seen (Some forward) = forward.cause
+
+-- ---- the open forwards
+
+-- the forward of a number, and the exchange that it was made for
+abbrev pub forward_in : ℕ → OpenForwards → Option Forward
+forward_in f forwards = option_map forward_seen (get nat_cmp forwards.by_number f)
+
+abbrev pub cause_in : ℕ → OpenForwards → Option ℕ
+cause_in f forwards = cause_seen (get nat_cmp forwards.by_number f)
+
+-- whether one was made for an exchange
+abbrev pub is_made_for : ℕ → OpenForwards → Bool
+is_made_for e forwards = contains nat_cmp forwards.made_for e
 
 -- ---- lists of them
 
@@ -171,10 +182,10 @@ abbrev pub seen_in : ListIndex → Seen
 seen_in index = record {
   live = λ target. live_in target index.lives.items;
   exchange = λ e. watched_exchange (open_in e index.exchanges.items);
-  forward = λ f. option_map forward_seen (get nat_cmp index.forwards f);
-  cause = λ f. cause_seen (get nat_cmp index.forwards f);
+  forward = λ f. forward_in f index.forwards;
+  cause = λ f. cause_in f index.forwards;
   window = λ e. window_of (open_in e index.exchanges.items);
-  has_forward = λ e. contains nat_cmp index.forwarded e;
+  has_forward = λ e. is_made_for e index.forwards;
   error = λ target. position_in target index.errors;
   failure = λ target. position_in target index.failures;
 }

@@ -1,5 +1,5 @@
 -- What maps by target and by number are seen as.
-use Rattle.std.specs.Prelude.{◌≡◌, ℕ, ◌-◌, Bool, true, false, ◌&&◌, List, [], ◌++◌, ◌∷◌, drop, filter, map, Option, Some, None, if◌then◌else◌}
+use Rattle.std.specs.Prelude.{◌≡◌, ℕ, ◌-◌, Bool, true, false, List, [], ◌++◌, ◌∷◌, drop, map, Option, Some, None, if◌then◌else◌}
 use Rattle.std.specs.Option.{option_map}
 use Rattle.std.specs.Ordering.{nat_cmp}
 use Rattle.std.specs.BTreeMap.{BTreeMap, get}
@@ -12,36 +12,17 @@ use Rattle.hc_transcript.specs.declared.line.ToldCause.{ToldCause}
 use Rattle.hc_transcript.specs.Items.{Exchange, Forward}
 use Rattle.hc_history.specs.States.{begun_by}
 use Rattle.hc_head.specs.Statuses.{is_error_status}
-use Rattle.hc_history.specs.Windows.{may_be_for}
-use Rattle.hc_history.specs.Claims.{Claim}
-use Rattle.hc_history.specs.Forwarded.{carries}
 use Rattle.hc_history.specs.Noting.{live_answered}
 use Rattle.hc_history.specs.Seen.{Live, live_at, WindowResponse, Seen}
-use Rattle.hc_index.specs.declared.kept.PooledAnswer.{PooledAnswer}
 use Rattle.hc_index.specs.declared.kept.PooledExchange.{PooledExchange}
 use Rattle.hc_index.specs.declared.pool.Pool.{Pool}
 use Rattle.hc_index.specs.declared.at_target.AtTarget.{AtTarget}
 use Rattle.hc_index.specs.declared.map_index.MapIndex.{MapIndex}
-use Rattle.hc_index.specs.Lists.{answer_seen, by_target, exchange_seen, forward_seen, cause_seen, live_in}
+use Rattle.hc_index.specs.Windows.{ToldResponse, told_seen, answer_to, those_for}
+use Rattle.hc_index.specs.Lists.{by_target, cause_in, exchange_seen, forward_in, is_made_for, live_in}
 use Rattle.hc_index.specs.Openings.{by_opening}
 
 -- ---- the pool of a target
-
--- a response to a forward, and what is told of the forward's cause
-pub record ToldResponse : Type 0 where
-  pub cause : ToldCause
-  pub response : WindowResponse
-
-abbrev pub told_seen : PooledAnswer → ToldResponse
-told_seen pooled = record { cause = pooled.cause; response = answer_seen pooled.answer }
-
--- the responses that may be for an exchange
-abbrev pub those_for : ℕ → List ToldResponse → List WindowResponse
-those_for e responses = map (λ one. one.response) (filter (λ one. may_be_for one.cause e) responses)
-
--- whether a response may be for the exchange of a reply, and the reply carries it
-abbrev pub carries_told : Claim → ToldResponse → Bool
-carries_told claim one = may_be_for one.cause claim.exchange && carries claim one.response.method one.response.status one.response.body
 
 -- whether the window of an exchange is open that begins behind so many answers
 abbrev pub is_open : ℕ → ℕ → Pool → Bool
@@ -127,11 +108,6 @@ pub record FailsAt (target : Target) (position : ℕ) (old : Option AtTarget) (n
   pub others : (b n : ℕ) → open_kept b n new ≡ open_kept b n old
   pub windows : (b n : ℕ) → open_kept b n old ≡ true → window_kept b new ≡ window_kept b old
 
--- the response to a forward of that cause, as a pool holds it
-abbrev pub answer_to : Forward → ToldCause → Message ResponseHead → ToldResponse
-answer_to forward cause response =
-    record { cause = cause; response = record { method = forward.request.method; status = response.head.status; body = response.body } }
-
 -- what a response to a forward of the target makes of it
 pub record AnswersAt (forward : Forward) (cause : ToldCause) (position moment : ℕ) (response : Message ResponseHead) (old : Option AtTarget) (new : Option AtTarget) : Type 0 where
   pub live : live_kept forward.target new
@@ -174,10 +150,10 @@ abbrev pub seen_in : MapIndex → Seen
 seen_in index = record {
   live = λ target. live_kept target (get by_target index.targets target);
   exchange = λ e. pooled_exchange (open_in index e);
-  forward = λ f. option_map forward_seen (get nat_cmp index.forwards f);
-  cause = λ f. cause_seen (get nat_cmp index.forwards f);
+  forward = λ f. forward_in f index.forwards;
+  cause = λ f. cause_in f index.forwards;
   window = λ e. window_in index.targets (open_in index e);
-  has_forward = λ e. contains nat_cmp index.forwarded e;
+  has_forward = λ e. is_made_for e index.forwards;
   error = λ target. error_kept (get by_target index.targets target);
   failure = λ target. failure_kept (get by_target index.targets target);
 }

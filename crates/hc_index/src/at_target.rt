@@ -116,7 +116,7 @@ impl AtTarget {
         self.error = error_after(self.error, head.status, position);
         let body = shared_body(self.lives.as_slice(), body)?;
         let response = Message { head, body };
-        self.pool.add(alloc, &forward, cause, &response)?;
+        self.pool.add(&forward, cause, &response)?;
         let lives = &mut self.lives;
         answer_lives(alloc, &forward, position, moment, &response, lives)?;
         begin_live(alloc, forward, position, moment, response, lives)

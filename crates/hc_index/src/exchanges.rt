@@ -1,14 +1,24 @@
 //! The open exchanges and their windows.
 
-ghost use Rattle.std.specs.Prelude.{◌≡◌, ◌==◌, ℕ, Some, None, map, OnOk, if◌then◌else◌};
+ghost use Rattle.std.specs.Prelude.{◌≡◌, ◌==◌, ℕ, Some, None, map, OnOk, if◌then◌else◌, option_copied};
 ghost use Rattle.hc_index.specs.Lists.{forward_seen, open_in, watched, watched_answered};
 
-use crate::kept::{RecordedForward, WatchedExchange, WindowAnswer};
+use crate::kept::{RecordedForward, WatchedExchange};
+use crate::windows::window_answer;
 use hc_framing::Message;
 use hc_head::{ResponseHead, same_target};
 use hc_history::may_be_for;
 use hc_transcript::ToldCause;
-use std::alloc::{AllocError, Global};
+use std::alloc::AllocError;
+
+/// The open exchange of that number.
+pub(crate) fn find_exchange(exchanges: &[WatchedExchange], number: u64) -> Option<&WatchedExchange>
+    ensures { option_copied result ≡ open_in number exchanges.now }
+{
+    exchanges
+        .iter()
+        .find(|watched| watched.exchange.number == number)
+}
 
 /// Closes the exchange of that number.
 pub(crate) fn close_exchange(exchanges: &mut Vec<WatchedExchange>, number: u64)
@@ -33,7 +43,6 @@ pub(crate) fn open_exchange(
 
 /// Puts the response to a forward of any target and cause into the window of an exchange.
 fn add_to_window(
-    alloc: Global,
     forward: &RecordedForward,
     cause: ToldCause,
     response: &Message<ResponseHead>,
@@ -47,18 +56,14 @@ fn add_to_window(
     if !same_target(&forward.target, &exchange.exchange.target) {
         return Ok(());
     }
-    exchange.window.push(WindowAnswer {
-        method: forward.request.method.clone()?,
-        status: response.head.status,
-        body: response.body.share()?,
-    })?;
+    let answer = window_answer(forward, cause, response)?;
+    exchange.window.push_back(answer)?;
     Ok(())
 }
 
 /// Puts the response to a forward of that cause into the windows of its target.
 #[tactic(auto, using(crate::proofs::LoopLemmas::seen_over_at))]
 pub(crate) fn add_to_windows(
-    alloc: Global,
     forward: &RecordedForward,
     cause: ToldCause,
     response: &Message<ResponseHead>,
@@ -68,7 +73,7 @@ pub(crate) fn add_to_windows(
         ≡ map (watched_answered (forward_seen forward.now) cause response.now) (map watched exchanges.old.items)) }
 {
     for exchange in exchanges.iter_mut() {
-        add_to_window(alloc, forward, cause, response, exchange)?;
+        add_to_window(forward, cause, response, exchange)?;
     }
     Ok(())
 }

@@ -1,21 +1,24 @@
 //! What is found of a reply, by what an index keeps of its exchange and its target.
 
-ghost use Rattle.std.specs.Prelude.{◌≡◌, ◌&&◌, nat_le, ℕ, ℤ, Bool, List, Option, Some, IfOk, map, true, false};
+ghost use Rattle.std.specs.Prelude.{◌≡◌, ◌&&◌, nat_le, ℕ, ℤ, Bool, List, Option, IfOk, true, false};
 ghost use Rattle.std.specs.List.{list_any};
 ghost use Rattle.hc_transcript.specs.Items.{Item};
-ghost use Rattle.hc_transcript.specs.History.{exchange_of};
 ghost use Rattle.hc_history.specs.Claims.{claim_of};
-ghost use Rattle.hc_history.specs.Forwarded.{carries, is_forwarded};
+ghost use Rattle.hc_history.specs.Forwarded.{is_forwarded};
 ghost use Rattle.hc_history.specs.Furthest.{furthest};
 ghost use Rattle.hc_history.specs.Right.{IsFoundBy, IsFoundForwarded};
 ghost use Rattle.hc_head.specs.Targets.{same_target};
 ghost use Rattle.hc_history.specs.Seen.{Seen, IsSeenAs, live_of};
 ghost use Rattle.hc_index.specs.Lists.{IsMostOrEnough, carried_by, ends_at, exchange_seen, live_in, passed_live};
+ghost use Rattle.hc_index.specs.Windows.{carries_told};
+ghost use Rattle.hc_index.specs.Opened.{Lends, answers_lent};
 
-use crate::kept::{LiveResponse, RecordedExchange, WindowAnswer};
+use crate::kept::LiveResponse;
+use crate::opened::Opened;
+use crate::windows::carries_one;
 use hc_head::same_target;
 use hc_history::{
-    Among, Finding, Mark, MarkedReply, Reason, ReplyClaim, Settings, carries, found_of_collapsed,
+    Among, Finding, Mark, MarkedReply, Reason, ReplyClaim, Settings, found_of_collapsed,
     found_of_forwarded, found_of_hit, found_of_inferred, found_of_unmarked, is_judged_collapsed,
     is_looked_at, passed, ttl_of,
 };
@@ -31,31 +34,19 @@ const FORWARDED_COUNT: u32 = 7;
 /// How many filters a reply passes that was collapsed.
 const COLLAPSED_COUNT: u32 = 8;
 
-/// What is known of the window of an exchange, whatever it holds.
-#[derive(Clone, Copy)]
-pub(crate) struct Window {
-    /// Where the latest error of a forward of its target stands; 0 where there was none.
-    pub(crate) error: u64,
-    /// Where the latest failure of one stands; 0 where there was none.
-    pub(crate) failure: u64,
-    /// Whether a forward was made for the exchange.
-    pub(crate) has_forward: bool,
-}
-
 /// What a reply to an open exchange claims.
 pub(crate) fn claim_of<'a>(
-    exchange: &'a RecordedExchange,
-    window: Window,
+    opened: &Opened<'a>,
+    has_forward: bool,
     moment: u64,
     reply: &MarkedReply<'a>,
     settings: &'a Settings,
     format: Format,
 ) -> ReplyClaim<'a>
-    ensures { (seen : Seen) (h : List Item) (e : ℕ) → IsSeenAs format seen h → exchange_of e h ≡ Some (exchange_seen exchange.now)
-        → window.error ≡ seen.error exchange.now.target → window.failure ≡ seen.failure exchange.now.target
-        → window.has_forward ≡ seen.has_forward e
-        → result ≡ claim_of format settings.now (exchange_seen exchange.now) moment reply.now h }
+    ensures { (seen : Seen) (h : List Item) (e : ℕ) → IsSeenAs format seen h → Lends seen e opened.now → has_forward ≡ seen.has_forward e
+        → result ≡ claim_of format settings.now (exchange_seen opened.now.exchange.now) moment reply.now h }
 {
+    let exchange = opened.exchange;
     ReplyClaim {
         format,
         exchange: exchange.number,
@@ -64,21 +55,23 @@ pub(crate) fn claim_of<'a>(
         since: exchange.position,
         reply: reply.reply(),
         moment,
-        is_inferred: reply.infers(format, &settings.allowed, window.has_forward),
+        is_inferred: reply.infers(format, &settings.allowed, has_forward),
         ttl: ttl_of(reply.mark()),
-        has_error: exchange.position < window.error,
-        has_failure: exchange.position < window.failure,
+        has_error: exchange.position < opened.error,
+        has_failure: exchange.position < opened.failure,
         settings,
     }
 }
 
-/// Whether the reply carries one of those answers.
-pub(crate) fn carries_one(claim: &ReplyClaim<'_>, answers: &[WindowAnswer]) -> bool
-    ensures { result ≡ list_any (λ answer. carries claim.now answer.method answer.status answer.body) answers.now }
+/// Whether the reply went forward, isn't judged as collapsed and carries a response of its window.
+pub(crate) fn is_carried(mark: Mark, claim: &ReplyClaim<'_>, opened: &Opened<'_>) -> bool
+    ensures { result ≡ carried_by claim.now.format mark (list_any (carries_told claim.now) (answers_lent opened.now)) }
 {
-    answers.iter().any(|answer| {
-        carries(claim, &answer.method, answer.status, answer.body.as_slice())
-    })
+    match mark {
+        Mark::Forwarded { collapsed } => !is_judged_collapsed(claim, collapsed)
+            && carries_one(claim, opened.answers, opened.before),
+        Mark::Hit { .. } | Mark::Both | Mark::Unmarked => false,
+    }
 }
 
 /// Whether only what came in the window is looked at.

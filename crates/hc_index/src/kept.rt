@@ -7,6 +7,7 @@ use hc_fields::SharedOctets;
 use hc_head::{Method, RequestHead, StatusCode, Target};
 use hc_transcript::ToldCause;
 use hc_update::Stored;
+use std::collections::VecDeque;
 
 /// A response that may be stored, as the records behind it have left it.
 pub(crate) struct LiveResponse {
@@ -31,8 +32,9 @@ impl Drop for LiveResponse {
     }
 }
 
-/// What the origin answered in the window of an exchange.
+/// What the origin answered, with what is told of the cause of its forward.
 pub(crate) struct WindowAnswer {
+    pub(crate) cause: ToldCause,
     /// The method of the forward.
     pub(crate) method: Method,
     pub(crate) status: StatusCode,
@@ -42,6 +44,7 @@ pub(crate) struct WindowAnswer {
 impl Drop for WindowAnswer {
     fn drop(self) {
         let WindowAnswer {
+            cause: _,
             method,
             status: _,
             body,
@@ -49,13 +52,6 @@ impl Drop for WindowAnswer {
         drop(method);
         drop(body);
     }
-}
-
-/// What the origin answered, in a pool of a target, with what is told of the cause of its forward.
-#[derive(Drop)]
-pub(crate) struct PooledAnswer {
-    pub(crate) cause: ToldCause,
-    pub(crate) answer: WindowAnswer,
 }
 
 /// An open exchange.
@@ -99,7 +95,7 @@ impl RecordedExchange {
 pub(crate) struct WatchedExchange {
     pub(crate) exchange: RecordedExchange,
     /// What the origin has answered for its target since its request, the oldest first.
-    pub(crate) window: Vec<WindowAnswer>,
+    pub(crate) window: VecDeque<WindowAnswer>,
 }
 
 /// An open exchange whose window is the end of its target's pool.

@@ -12,36 +12,32 @@ ghost use Rattle.hc_history.specs.Seen.{IsSeenAs};
 ghost use Rattle.hc_history.specs.Noting.{Notes};
 ghost use Rattle.hc_index.specs.Lists.{by_target, position_in, seen_in};
 
-use crate::candidates::response_among;
-use crate::exchanges::{add_to_windows, close_exchange, open_exchange};
+use crate::exchanges::{add_to_windows, close_exchange, find_exchange, open_exchange};
+use crate::forwards::OpenForwards;
 use crate::index::Index;
+use crate::keeping::Keeping;
 use crate::kept::{LiveResponse, RecordedExchange, RecordedForward, WatchedExchange};
-use crate::list_finding::{candidates, claim, finding};
 use crate::lives::{answer_lives, begin_live};
-use crate::noting::{Noting, note_record};
-use crate::sent::{add_sent, begin_anew};
+use crate::noting::Noting;
+use crate::opened::Opened;
 use hc_framing::Message;
 use hc_head::{RequestHead, ResponseHead, Target, is_error_status};
-use hc_history::{Candidate, Finding, MarkedReply, ReplyClaim, Settings};
-use hc_transcript::{Format, RecordView, ToldCause};
-use hc_update::Stored;
+use hc_transcript::{Format, ToldCause};
 use std::alloc::{AllocError, Global};
-use std::collections::{BTreeMap, BTreeSet};
+use std::collections::{BTreeMap, VecDeque};
 
 /// An index that keeps lists and walks them: the time for a reply grows with the number of live responses,
 /// and that for a response with the number of live responses and open exchanges.
 pub struct ListIndex {
-    pub(crate) alloc: Global,
+    alloc: Global,
     /// The live responses, by rising position.
-    pub(crate) lives: Vec<LiveResponse>,
-    pub(crate) exchanges: Vec<WatchedExchange>,
-    pub(crate) forwards: BTreeMap<u64, RecordedForward>,
-    /// The open exchanges for which a forward was made.
-    pub(crate) forwarded: BTreeSet<u64>,
+    lives: Vec<LiveResponse>,
+    exchanges: Vec<WatchedExchange>,
+    forwards: OpenForwards,
     /// The position of the latest error of a forward of each target.
-    pub(crate) errors: BTreeMap<Target, u64>,
+    errors: BTreeMap<Target, u64>,
     /// The position of the latest failure of a forward of each target.
-    pub(crate) failures: BTreeMap<Target, u64>,
+    failures: BTreeMap<Target, u64>,
 }
 
 impl Drop for ListIndex {
@@ -51,17 +47,22 @@ impl Drop for ListIndex {
             lives,
             exchanges,
             forwards,
-            forwarded,
             errors,
             failures,
         } = self;
         drop(lives);
         drop(exchanges);
         drop(forwards);
-        drop(forwarded);
         drop(errors);
         drop(failures);
     }
+}
+
+/// The position that is kept of a target.
+fn position_of(positions: &BTreeMap<Target, u64>, target: &Target) -> u64
+    ensures { result ≡ position_in target.now positions.now }
+{
+    positions.get(target).copied().unwrap_or(0)
 }
 
 /// Keeps the position for that target.
@@ -103,8 +104,7 @@ impl ListIndex {
             alloc,
             lives: Vec::new(alloc),
             exchanges: Vec::new(alloc),
-            forwards: BTreeMap::new(alloc),
-            forwarded: BTreeSet::new(alloc),
+            forwards: OpenForwards::new(alloc),
             errors: BTreeMap::new(alloc),
             failures: BTreeMap::new(alloc),
         }
@@ -123,14 +123,14 @@ impl Noting for ListIndex {
     ) -> Result<(), AllocError> {
         let watched = WatchedExchange {
             exchange: RecordedExchange::new(number, position, request, target),
-            window: Vec::new(self.alloc),
+            window: VecDeque::new(self.alloc),
         };
-        begin_anew(&mut self.forwarded, number);
+        self.forwards.begin_anew(number);
         open_exchange(&mut self.exchanges, watched)
     }
 
     fn close_exchange(&mut self, number: u64) {
-        begin_anew(&mut self.forwarded, number);
+        self.forwards.begin_anew(number);
         close_exchange(&mut self.exchanges, number);
     }
 
@@ -143,12 +143,11 @@ impl Noting for ListIndex {
         cause: Option<u64>,
     ) -> Result<(), AllocError> {
         let forward = RecordedForward::new(moment, request, target, cause);
-        self.forwards.insert(number, forward)?;
-        add_sent(&mut self.forwarded, cause)
+        self.forwards.open(number, forward)
     }
 
     fn fail_forward(&mut self, number: u64, position: u64) -> Result<(), AllocError> {
-        let Some(forward) = self.forwards.remove(&number) else {
+        let Some(forward) = self.forwards.take(number) else {
             return Ok(());
         };
         keep_position(&mut self.failures, forward.target, position)
@@ -163,72 +162,43 @@ impl Noting for ListIndex {
         format: Format,
     ) -> Result<(), AllocError> {
         let alloc = self.alloc;
-        let Some(forward) = self.forwards.remove(&number) else {
+        let Some(forward) = self.forwards.take(number) else {
             return Ok(());
         };
         keep_error(alloc, &mut self.errors, &forward, &response, position)?;
         let cause = ToldCause::told_in(format, forward.cause);
-        add_to_windows(alloc, &forward, cause, &response, &mut self.exchanges)?;
+        add_to_windows(&forward, cause, &response, &mut self.exchanges)?;
         let lives = &mut self.lives;
         answer_lives(alloc, &forward, position, moment, &response, lives)?;
         begin_live(alloc, forward, position, moment, response, lives)
     }
 }
 
-impl Index for ListIndex {
-    ghost seen = { λ index. seen_in index };
-
-    fn note(
-        &mut self,
-        position: u64,
-        view: &RecordView<'_>,
-        format: Format,
-    ) -> Result<(), AllocError> {
-        note_record(self.alloc, self, position, view, format)
+impl Keeping for ListIndex {
+    fn alloc(&self) -> Global {
+        self.alloc
     }
 
-    fn find(
-        &self,
-        exchange: u64,
-        reply: &MarkedReply<'_>,
-        moment: u64,
-        settings: &Settings,
-        format: Format,
-    ) -> Result<Finding, AllocError> {
-        finding(self, exchange, reply, moment, settings, format)
+    fn forwards(&self) -> &OpenForwards {
+        &self.forwards
     }
 
-    fn candidates(
-        &self,
-        exchange: u64,
-        reply: &MarkedReply<'_>,
-        moment: u64,
-        settings: &Settings,
-        format: Format,
-    ) -> Result<Vec<Candidate>, AllocError> {
-        candidates(self, exchange, reply, moment, settings, format)
+    fn lives(&self, _target: &Target) -> &[LiveResponse] {
+        self.lives.as_slice()
     }
 
-    fn has_forward(&self, exchange: u64) -> bool {
-        self.forwarded.contains(&exchange)
-    }
-
-    fn claim<'a>(
-        &'a self,
-        exchange: u64,
-        reply: &MarkedReply<'a>,
-        moment: u64,
-        settings: &'a Settings,
-        format: Format,
-    ) -> Option<ReplyClaim<'a>> {
-        claim(self, exchange, reply, moment, settings, format)
-    }
-
-    fn response(&self, target: &Target, position: u64) -> Option<&Stored> {
-        response_among(self.lives.as_slice(), target, position)
-    }
-
-    fn forward(&self, number: u64) -> Option<&RecordedForward> {
-        self.forwards.get(&number)
+    fn opened(&self, number: u64, _surely: bool) -> Option<Opened<'_>> {
+        let Some(watched) = find_exchange(self.exchanges.as_slice(), number) else {
+            return None;
+        };
+        let exchange = &watched.exchange;
+        Some(Opened {
+            exchange,
+            error: position_of(&self.errors, &exchange.target),
+            failure: position_of(&self.failures, &exchange.target),
+            lives: self.lives.as_slice(),
+            answers: &watched.window,
+            before: 0,
+        })
     }
 }

@@ -9,29 +9,26 @@ ghost use Rattle.hc_history.specs.Noting.{Notes};
 ghost use Rattle.hc_index.specs.Maps.{seen_in};
 
 use crate::at_target::AtTarget;
+use crate::forwards::OpenForwards;
 use crate::index::Index;
-use crate::kept::{PooledExchange, RecordedExchange, RecordedForward};
-use crate::map_finding::{candidates, claim, finding, response};
-use crate::noting::{Noting, note_record};
-use crate::sent::{add_sent, begin_anew};
+use crate::keeping::Keeping;
+use crate::kept::{LiveResponse, PooledExchange, RecordedExchange, RecordedForward};
+use crate::noting::Noting;
+use crate::opened::Opened;
 use crate::targets::{answer_at, close_at, fail_at, open_at};
 use hc_framing::Message;
 use hc_head::{RequestHead, ResponseHead, Target};
-use hc_history::{Candidate, Finding, MarkedReply, ReplyClaim, Settings};
-use hc_transcript::{Format, RecordView, ToldCause};
-use hc_update::Stored;
+use hc_transcript::{Format, ToldCause};
 use std::alloc::{AllocError, Global};
-use std::collections::{BTreeMap, BTreeSet};
+use std::collections::BTreeMap;
 
 /// An index that looks at one target alone: the time for a record doesn't grow with the records of other
 /// targets, and a hit that the newest response passes is found at once.
 pub struct MapIndex {
-    pub(crate) alloc: Global,
-    pub(crate) targets: BTreeMap<Target, AtTarget>,
-    pub(crate) exchanges: BTreeMap<u64, PooledExchange>,
-    pub(crate) forwards: BTreeMap<u64, RecordedForward>,
-    /// The open exchanges for which a forward was made.
-    pub(crate) forwarded: BTreeSet<u64>,
+    alloc: Global,
+    targets: BTreeMap<Target, AtTarget>,
+    exchanges: BTreeMap<u64, PooledExchange>,
+    forwards: OpenForwards,
 }
 
 impl Drop for MapIndex {
@@ -41,12 +38,10 @@ impl Drop for MapIndex {
             targets,
             exchanges,
             forwards,
-            forwarded,
         } = self;
         drop(targets);
         drop(exchanges);
         drop(forwards);
-        drop(forwarded);
     }
 }
 
@@ -59,8 +54,7 @@ impl MapIndex {
             alloc,
             targets: BTreeMap::new(alloc),
             exchanges: BTreeMap::new(alloc),
-            forwards: BTreeMap::new(alloc),
-            forwarded: BTreeSet::new(alloc),
+            forwards: OpenForwards::new(alloc),
         }
     }
 }
@@ -75,7 +69,7 @@ impl Noting for MapIndex {
         request: RequestHead,
         target: Target,
     ) -> Result<(), AllocError> {
-        begin_anew(&mut self.forwarded, number);
+        self.forwards.begin_anew(number);
         let behind = open_at(self.alloc, &mut self.targets, &target, number)?;
         let pooled = PooledExchange {
             exchange: RecordedExchange::new(number, position, request, target),
@@ -86,7 +80,7 @@ impl Noting for MapIndex {
     }
 
     fn close_exchange(&mut self, number: u64) {
-        begin_anew(&mut self.forwarded, number);
+        self.forwards.begin_anew(number);
         if let Some(pooled) = self.exchanges.remove(&number) {
             let target = &pooled.exchange.target;
             close_at(&mut self.targets, target, pooled.behind, number);
@@ -102,12 +96,11 @@ impl Noting for MapIndex {
         cause: Option<u64>,
     ) -> Result<(), AllocError> {
         let forward = RecordedForward::new(moment, request, target, cause);
-        self.forwards.insert(number, forward)?;
-        add_sent(&mut self.forwarded, cause)
+        self.forwards.open(number, forward)
     }
 
     fn fail_forward(&mut self, number: u64, position: u64) -> Result<(), AllocError> {
-        let Some(forward) = self.forwards.remove(&number) else {
+        let Some(forward) = self.forwards.take(number) else {
             return Ok(());
         };
         fail_at(self.alloc, &mut self.targets, forward.target, position)
@@ -121,7 +114,7 @@ impl Noting for MapIndex {
         response: Message<ResponseHead>,
         format: Format,
     ) -> Result<(), AllocError> {
-        let Some(forward) = self.forwards.remove(&number) else {
+        let Some(forward) = self.forwards.take(number) else {
             return Ok(());
         };
         let cause = ToldCause::told_in(format, forward.cause);
@@ -136,60 +129,39 @@ impl Noting for MapIndex {
     }
 }
 
-impl Index for MapIndex {
-    ghost seen = { λ index. seen_in index };
-
-    fn note(
-        &mut self,
-        position: u64,
-        view: &RecordView<'_>,
-        format: Format,
-    ) -> Result<(), AllocError> {
-        note_record(self.alloc, self, position, view, format)
+impl Keeping for MapIndex {
+    fn alloc(&self) -> Global {
+        self.alloc
     }
 
-    fn find(
-        &self,
-        exchange: u64,
-        reply: &MarkedReply<'_>,
-        moment: u64,
-        settings: &Settings,
-        format: Format,
-    ) -> Result<Finding, AllocError> {
-        finding(self, exchange, reply, moment, settings, format)
+    fn forwards(&self) -> &OpenForwards {
+        &self.forwards
     }
 
-    fn candidates(
-        &self,
-        exchange: u64,
-        reply: &MarkedReply<'_>,
-        moment: u64,
-        settings: &Settings,
-        format: Format,
-    ) -> Result<Vec<Candidate>, AllocError> {
-        candidates(self, exchange, reply, moment, settings, format)
+    fn lives(&self, target: &Target) -> &[LiveResponse] {
+        match self.targets.get(target) {
+            Some(here) => here.lives.as_slice(),
+            None => &[],
+        }
     }
 
-    fn has_forward(&self, exchange: u64) -> bool {
-        self.forwarded.contains(&exchange)
-    }
-
-    fn claim<'a>(
-        &'a self,
-        exchange: u64,
-        reply: &MarkedReply<'a>,
-        moment: u64,
-        settings: &'a Settings,
-        format: Format,
-    ) -> Option<ReplyClaim<'a>> {
-        claim(self, exchange, reply, moment, settings, format)
-    }
-
-    fn response(&self, target: &Target, position: u64) -> Option<&Stored> {
-        response(self, target, position)
-    }
-
-    fn forward(&self, number: u64) -> Option<&RecordedForward> {
-        self.forwards.get(&number)
+    fn opened(&self, number: u64, surely: bool) -> Option<Opened<'_>> {
+        let Some(pooled) = self.exchanges.get(&number) else {
+            return None;
+        };
+        let Some(here) = self.targets.get(&pooled.exchange.target) else {
+            return None;
+        };
+        if !here.pool.may_be_open(pooled.behind, number, surely) {
+            return None;
+        }
+        Some(Opened {
+            exchange: &pooled.exchange,
+            error: here.error,
+            failure: here.failure,
+            lives: here.lives.as_slice(),
+            answers: &here.pool.answers,
+            before: pooled.behind.saturating_sub(here.pool.dropped),
+        })
     }
 }

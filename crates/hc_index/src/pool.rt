@@ -1,16 +1,13 @@
 //! What the windows of a target hold.
 
-ghost use Rattle.std.specs.Prelude.{◌≡◌, ◌≤◌, ◌+◌, ◌^◌, ◌++◌, ◌&&◌, ℕ, true, length, drop};
+ghost use Rattle.std.specs.Prelude.{◌≡◌, ◌≤◌, ◌+◌, ◌^◌, ℕ, true, length, drop};
 ghost use Rattle.std.specs.BTreeSet.{contains};
-ghost use Rattle.std.specs.List.{list_any};
-ghost use Rattle.hc_history.specs.Windows.{may_be_for};
-ghost use Rattle.hc_history.specs.Forwarded.{carries};
 ghost use Rattle.hc_index.specs.Openings.{by_opening};
 
-use crate::kept::{PooledAnswer, RecordedForward, WindowAnswer};
+use crate::kept::{RecordedForward, WindowAnswer};
+use crate::windows::window_answer;
 use hc_framing::Message;
 use hc_head::ResponseHead;
-use hc_history::{ReplyClaim, carries, may_be_for};
 use hc_transcript::ToldCause;
 use std::alloc::{AllocError, Global};
 use std::collections::{BTreeSet, VecDeque};
@@ -23,9 +20,9 @@ const MOST_DROPPED: usize = 1 << 62;
 #[derive(Drop)]
 pub(crate) struct Pool {
     /// How many answers were given up.
-    dropped: usize,
+    pub(crate) dropped: usize,
     /// The answers behind them, the oldest first.
-    answers: VecDeque<PooledAnswer>,
+    pub(crate) answers: VecDeque<WindowAnswer>,
     /// How many answers there were before a window, and the number of its exchange.
     windows: BTreeSet<(usize, u64)>,
     ghost few: { dropped ≤ 2 ^ 62 },
@@ -33,7 +30,7 @@ pub(crate) struct Pool {
 }
 
 /// Gives up so many of the oldest answers.
-fn drop_oldest(answers: &mut VecDeque<PooledAnswer>, count: usize)
+fn drop_oldest(answers: &mut VecDeque<WindowAnswer>, count: usize)
     ensures { answers.new.items ≡ drop count answers.old.items }
 {
     for _ in 0..count {
@@ -41,37 +38,11 @@ fn drop_oldest(answers: &mut VecDeque<PooledAnswer>, count: usize)
     }
 }
 
-/// The two runs of the answers behind so many.
-fn parts_behind(
-    answers: &VecDeque<PooledAnswer>,
-    before: usize,
-) -> (&[PooledAnswer], &[PooledAnswer])
-    ensures { result.0.now ++ result.1.now ≡ drop before answers.now.items }
-{
-    let (older, newer) = answers.as_slices();
-    let more = before.saturating_sub(older.len()).min(newer.len());
-    let (_, older) = older.split_at(before.min(older.len()));
-    let (_, newer) = newer.split_at(more);
-    (older, newer)
-}
-
-/// Whether the reply carries one of those answers that may be for its exchange.
-fn carries_one(claim: &ReplyClaim<'_>, answers: &[PooledAnswer]) -> bool
-    ensures { result ≡ list_any (λ one. may_be_for one.cause claim.now.exchange
-        && carries claim.now one.answer.method one.answer.status one.answer.body) answers.now }
-{
-    answers.iter().any(|one| {
-        let answer = &one.answer;
-        may_be_for(one.cause, claim.exchange)
-            && carries(claim, &answer.method, answer.status, answer.body.as_slice())
-    })
-}
-
 impl Pool {
-    ghost use Rattle.std.specs.Prelude.{IfOk, OnOk};
+    ghost use Rattle.std.specs.Prelude.{◌||◌, false, not, IfOk, OnOk};
     ghost use Rattle.hc_index.specs.Lists.{forward_seen};
-    ghost use Rattle.hc_index.specs.Maps.{AddsAnswer, ClosesWindow, OpensWindow, answer_to, answers_behind, carries_told, is_open};
-    ghost use Rattle.std.specs.Prelude.{false};
+    ghost use Rattle.hc_index.specs.Windows.{answer_to};
+    ghost use Rattle.hc_index.specs.Maps.{AddsAnswer, ClosesWindow, OpensWindow, answers_behind, is_open};
 
     /// A pool without windows.
     pub(crate) fn new(alloc: Global) -> Self
@@ -91,11 +62,12 @@ impl Pool {
         self.windows.is_empty()
     }
 
-    /// Whether the window of the exchange of that number is open behind so many answers.
-    pub(crate) fn is_open(&self, behind: usize, number: u64) -> bool
-        ensures { result ≡ is_open behind number self.now }
+    /// Whether the window of the exchange of that number may be open behind so many answers. Where it needn't
+    /// be sure of that, it doesn't look.
+    pub(crate) fn may_be_open(&self, behind: usize, number: u64, surely: bool) -> bool
+        ensures { result ≡ (not surely || is_open behind number self.now) }
     {
-        self.windows.contains(&(behind, number))
+        !surely || self.windows.contains(&(behind, number))
     }
 
     /// Opens the window of the exchange of that number, and says how many answers there were before it.
@@ -142,7 +114,6 @@ impl Pool {
     /// Adds the response to a forward of the target and of that cause, if a window is open.
     pub(crate) fn add(
         &mut self,
-        alloc: Global,
         forward: &RecordedForward,
         cause: ToldCause,
         response: &Message<ResponseHead>,
@@ -152,21 +123,8 @@ impl Pool {
         if self.windows.is_empty() {
             return Ok(());
         }
-        let answer = WindowAnswer {
-            method: forward.request.method.clone()?,
-            status: response.head.status,
-            body: response.body.share()?,
-        };
-        self.answers.push_back(PooledAnswer { cause, answer })?;
+        let answer = window_answer(forward, cause, response)?;
+        self.answers.push_back(answer)?;
         Ok(())
-    }
-
-    /// Whether the reply carries one of the answers behind so many that may be for its exchange.
-    pub(crate) fn carries_one(&self, claim: &ReplyClaim<'_>, behind: usize) -> bool
-        ensures { result ≡ list_any (carries_told claim.now) (answers_behind behind self.now) }
-    {
-        let before = behind.saturating_sub(self.dropped);
-        let (older, newer) = parts_behind(&self.answers, before);
-        carries_one(claim, older) || carries_one(claim, newer)
     }
 }

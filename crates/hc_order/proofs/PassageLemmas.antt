@@ -40,7 +40,7 @@ origin_open f Stopping before = refl
 
 pub client_is_open : (c : ℕ) (log : List Move) → (passage_of (Client c) log).is_open ≡ is_connected c log
 client_is_open c [] = refl
-client_is_open c (Before last number given got reads failures ∷ log) = refl
+client_is_open c (Before beginning ∷ log) = refl
 client_is_open c (Heard occurrence ∷ log) =
     client_open c occurrence.event.of (passage_of (Client c) log) ∙ ap (opened_by c occurrence.event.of) (client_is_open c log)
 client_is_open c (Sent to octets ∷ log) =
@@ -51,7 +51,7 @@ client_is_open c (Closed link ∷ log) =
 
 pub origin_is_open : (f : ℕ) (log : List Move) → (passage_of (Origin f) log).is_open ≡ is_underway f log
 origin_is_open f [] = refl
-origin_is_open f (Before last number given got reads failures ∷ log) = refl
+origin_is_open f (Before beginning ∷ log) = refl
 origin_is_open f (Heard occurrence ∷ log) =
     origin_open f occurrence.event.of (passage_of (Origin f) log) ∙ ap (lost_by f occurrence.event.of) (origin_is_open f log)
 origin_is_open f (Sent to octets ∷ log) =
@@ -81,7 +81,7 @@ origin_elsewhere f (OriginFailed g) before other = ap (λ (b : Bool). cond b (cl
 origin_elsewhere f Stopping before other = refl
 
 pub left_elsewhere : (link : Receiver) (newest : Move) (log : List Move) → is_of link newest ≡ false → passage_of link (newest ∷ log) ≡ passage_of link log
-left_elsewhere link (Before last number given got reads failures) log other = absurd (cc)
+left_elsewhere link (Before beginning) log other = absurd (cc)
 left_elsewhere (Client c) (Heard occurrence) log other = client_elsewhere c occurrence.event.of (passage_of (Client c) log) other
 left_elsewhere (Origin f) (Heard occurrence) log other = origin_elsewhere f occurrence.event.of (passage_of (Origin f) log) other
 left_elsewhere link (Sent to octets) log other =

@@ -18,6 +18,7 @@ use Rattle.hc_service.proofs.ForwardLemmas.{runs_leave}
 use Rattle.hc_service.proofs.LinkLemmas.{none_some}
 use Rattle.hc_service.proofs.RunLemmas.{runs_agree, runs_to}
 use Rattle.hc_service.proofs.TableLemmas.{get_none}
+use Rattle.hc_order.specs.Log.{Beginning}
 use Rattle.hc_order.specs.Log.Move.{Before}
 use Rattle.hc_order.specs.Mirrors.{Mirrors}
 use Rattle.hc_order.specs.Resting.{AllHaveEnded, AwaitWhereLeft, HasNoExchange, HasNoForward, IsAtRest, ended_behind_all, open_behind_all}
@@ -116,13 +117,13 @@ runs_rest settings events results s s' h records opened ended rest earlier runs 
 none_of : {X : Type 0} (o : Option X) → is_some o ≡ false → o ≡ None
 none_of o none = unless o (λ x is. false_true (sym none ∙ ap is_some is))
 
-pub new_mirrors : (options : CoreOptions) (settings : CoreSettings) (number : ℕ) (given got : List ℕ) (reads failures : ℕ)
-    → Mirrors options.connections (new_state_with settings options) (Before None number given got reads failures ∷ [])
-new_mirrors options settings number given got reads failures = record {
+pub new_mirrors : (options : CoreOptions) (settings : CoreSettings) (beginning : Beginning) → beginning.last ≡ None
+    → Mirrors options.connections (new_state_with settings options) (Before beginning ∷ [])
+new_mirrors options settings beginning none_before = record {
   connections = λ c. ap is_some (get_none c);
   forwards = λ f. ap is_some (get_none f);
   count = let none = len-empty nat_cmp Connection in omega (arith, none);
-  last = refl;
+  last = sym none_before;
   fresh = λ c later. refl;
   has_room = refl;
 }
@@ -137,7 +138,6 @@ empty_mirrors options settings = record {
   has_room = refl;
 }
 
-pub before_rests : (room : ℕ) (s : State) (last : Option ℕ) (number : ℕ) (given got : List ℕ) (reads failures : ℕ)
-    → Mirrors room s (Before last number given got reads failures ∷ []) → IsAtRest s
-before_rests room s last number given got reads failures m =
+pub before_rests : (room : ℕ) (s : State) (beginning : Beginning) → Mirrors room s (Before beginning ∷ []) → IsAtRest s
+before_rests room s beginning m =
     (none_in s.connections (λ c. none_of (get s.connections c) (m.connections c)), none_in s.forwards (λ f. none_of (get s.forwards f) (m.forwards f)))

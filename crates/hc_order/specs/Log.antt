@@ -6,9 +6,21 @@ use Rattle.hc_order.specs.declared.occurrence.Occurrence.{Occurrence}
 use Rattle.hc_order.specs.declared.receiver.Receiver.{Receiver}
 use Rattle.hc_order.specs.declared.receiver.Receiver.TheVariants.{Client, Origin}
 
+-- what was before all moves: which connection was opened last, if one was; none was open then, nor was a forward
+pub record Beginning : Type 0 where
+  pub last : Option ℕ
+  -- the number of the client's connection
+  pub number : ℕ
+  -- the octets that were read from its link, and those that were written to it
+  pub given : List ℕ
+  pub got : List ℕ
+  -- how often it had been read, and had failed
+  pub reads : ℕ
+  pub failures : ℕ
+
 pub data Move : Type 0 where
-  -- before all others: the connection that was opened last was of that number, if one was, and none was open, nor a forward; number is that of the client's connection, these octets were read from its link and written to it already, and it had been read and had failed so often
-  Before : (last : Option ℕ) (number : ℕ) (given got : List ℕ) (reads failures : ℕ) → Move
+  -- that was before all others
+  Before : (beginning : Beginning) → Move
   -- this happened, and is told for its reason
   Heard : (occurrence : Occurrence) → Move
   -- these octets were sent to that link, which may have failed before, or at that

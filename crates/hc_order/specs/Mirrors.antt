@@ -28,7 +28,7 @@ is_on f (Origin g) = g == f
 -- the client opened the connection, and it wasn't closed since
 abbrev pub is_connected : ℕ → List Move → Bool
 is_connected c [] = false
-is_connected c (Before last number given got reads failures ∷ log) = false
+is_connected c (Before beginning ∷ log) = false
 is_connected c (Heard occurrence ∷ log) = opened_by c occurrence.event.of (is_connected c log)
 is_connected c (Sent to octets ∷ log) = is_connected c log
 is_connected c (Closed link ∷ log) = if is_its c link then false else is_connected c log
@@ -36,7 +36,7 @@ is_connected c (Closed link ∷ log) = if is_its c link then false else is_conne
 -- octets were sent on the forward, and since then it neither failed nor was closed
 abbrev pub is_underway : ℕ → List Move → Bool
 is_underway f [] = false
-is_underway f (Before last number given got reads failures ∷ log) = false
+is_underway f (Before beginning ∷ log) = false
 is_underway f (Heard occurrence ∷ log) = lost_by f occurrence.event.of (is_underway f log)
 is_underway f (Sent to octets ∷ log) = if is_on f to then true else is_underway f log
 is_underway f (Closed link ∷ log) = if is_on f link then false else is_underway f log
@@ -48,7 +48,7 @@ one_closed (Origin f) = 0
 -- how many connections were opened
 abbrev pub opened_in : List Move → ℕ
 opened_in [] = 0
-opened_in (Before last number given got reads failures ∷ log) = 0
+opened_in (Before beginning ∷ log) = 0
 opened_in (Heard occurrence ∷ log) = opened_in log + one_opened occurrence.event.of
 opened_in (Sent to octets ∷ log) = opened_in log
 opened_in (Closed link ∷ log) = opened_in log
@@ -56,7 +56,7 @@ opened_in (Closed link ∷ log) = opened_in log
 -- how many were closed
 abbrev pub closed_in : List Move → ℕ
 closed_in [] = 0
-closed_in (Before last number given got reads failures ∷ log) = 0
+closed_in (Before beginning ∷ log) = 0
 closed_in (Heard occurrence ∷ log) = closed_in log
 closed_in (Sent to octets ∷ log) = closed_in log
 closed_in (Closed link ∷ log) = one_closed link + closed_in log
@@ -64,7 +64,7 @@ closed_in (Closed link ∷ log) = one_closed link + closed_in log
 -- the number of the connection that was opened last
 abbrev pub last_opened : List Move → Option ℕ
 last_opened [] = None
-last_opened (Before last number given got reads failures ∷ log) = last
+last_opened (Before beginning ∷ log) = beginning.last
 last_opened (Heard occurrence ∷ log) = last_by occurrence.event.of (last_opened log)
 last_opened (Sent to octets ∷ log) = last_opened log
 last_opened (Closed link ∷ log) = last_opened log
@@ -92,7 +92,7 @@ MayHappen room Stopping log = Unit {0}
 -- each event may happen by the log before it
 abbrev pub IsOrderly : ℕ → List Move → Type 0
 IsOrderly room [] = Unit {0}
-IsOrderly room (Before last number given got reads failures ∷ log) = Unit {0}
+IsOrderly room (Before beginning ∷ log) = Unit {0}
 IsOrderly room (Heard occurrence ∷ log) = MayHappen room occurrence.event.of log × IsOrderly room log
 IsOrderly room (Sent to octets ∷ log) = IsOrderly room log
 IsOrderly room (Closed link ∷ log) = IsOrderly room log

@@ -70,7 +70,7 @@ is_at (Client c) other = is_its c other
 is_at (Origin f) other = is_on f other
 
 abbrev pub passed_behind : Receiver → Move → Passage → Passage
-passed_behind link (Before last number given got reads failures) before = unopened
+passed_behind link (Before beginning) before = unopened
 passed_behind link (Heard occurrence) before = heard_behind link occurrence.event.of before
 passed_behind link (Sent to octets) before = if is_at link to then sent_behind link octets before else before
 passed_behind link (Closed other) before = if is_at link other then closing before else before
@@ -104,7 +104,7 @@ happens_at (Origin f) happening = happens_on f happening
 
 -- it is of that link; what was before all others is of each
 abbrev pub is_of : Receiver → Move → Bool
-is_of link (Before last number given got reads failures) = true
+is_of link (Before beginning) = true
 is_of link (Heard occurrence) = happens_at link occurrence.event.of
 is_of link (Sent to octets) = is_at link to
 is_of link (Closed other) = is_at link other

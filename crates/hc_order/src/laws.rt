@@ -9,7 +9,7 @@ ghost use Rattle.hc_service.specs.Runs.{StepResult, Steps};
 ghost use Rattle.hc_service.specs.Serves.{Serves, first_fault};
 ghost use Rattle.hc_service.specs.State.{State, new_state_with};
 ghost use Rattle.hc_order.specs.declared.occurrence.Occurrence.{Occurrence};
-ghost use Rattle.hc_order.specs.Log.{Move, carried};
+ghost use Rattle.hc_order.specs.Log.{Beginning, Move, carried};
 ghost use Rattle.hc_order.specs.Log.Move.{Before, Heard};
 ghost use Rattle.hc_order.specs.Mirrors.{MayHappen, Mirrors, moment_fault};
 ghost use Rattle.hc_order.specs.Passed.{AreOrderly, AreServed, AreUsual, events_of, passed};
@@ -43,9 +43,8 @@ pub fn what_may_happen_in_turn_is_served()
 /// A new cache mirrors the empty log, and what is before all others, where no connection was opened before; and a cache
 /// that mirrors what is before all others is at rest.
 pub fn a_new_cache_mirrors_what_is_before()
-    ensures mirrors { (options : CoreOptions) (settings : CoreSettings) (number : ℕ) (given got : List ℕ) (reads failures : ℕ)
-        → Mirrors options.connections (new_state_with settings options) (Before None number given got reads failures ∷ []) }
-    ensures rests { (room : ℕ) (s : State) (last : Option ℕ) (number : ℕ) (given got : List ℕ) (reads failures : ℕ)
-        → Mirrors room s (Before last number given got reads failures ∷ []) → IsAtRest s }
+    ensures mirrors { (options : CoreOptions) (settings : CoreSettings) (beginning : Beginning) → beginning.last ≡ None
+        → Mirrors options.connections (new_state_with settings options) (Before beginning ∷ []) }
+    ensures rests { (room : ℕ) (s : State) (beginning : Beginning) → Mirrors room s (Before beginning ∷ []) → IsAtRest s }
     ensures empty { (options : CoreOptions) (settings : CoreSettings) → Mirrors options.connections (new_state_with settings options) [] }
 {}

@@ -27,7 +27,7 @@ failed (ToConvert file) status faults_old faults_new is = inr is
 failed (ToSplit file parts dir) status faults_old faults_new is = inr is
 failed (ToJoin dir least) status faults_old faults_new is = inr is
 failed (ToServe listen origin connections file settings) status faults_old faults_new is = inl is
-failed (ToProxy listen origin file log told terms limits keeps_cookies settings) status faults_old faults_new is = inl is
+failed (ToProxy asked) status faults_old faults_new is = inl is
 
 pub fails_with_3 : (task : Task) (status : ℕ) (old new faults_old faults_new : Option (List ℕ)) → status ≡ 3 → Keeps old new
     → Does task status old new faults_old faults_new

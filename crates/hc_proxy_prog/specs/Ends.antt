@@ -28,7 +28,7 @@ EndsTask (ToConvert file) status faults_old faults_new = IsElsewhere status
 EndsTask (ToSplit file parts dir) status faults_old faults_new = IsElsewhere status
 EndsTask (ToJoin dir least) status faults_old faults_new = IsElsewhere status
 EndsTask (ToServe listen origin connections file settings) status faults_old faults_new = EndsServing status faults_old faults_new
-EndsTask (ToProxy listen origin file log told terms limits keeps_cookies settings) status faults_old faults_new = EndsProxying status faults_old faults_new
+EndsTask (ToProxy asked) status faults_old faults_new = EndsProxying status faults_old faults_new
 
 -- a task writes nothing on the output, unless whoever serves logs replies there
 abbrev pub Does : Task → ℕ → Option (List ℕ) → Option (List ℕ) → Option (List ℕ) → Option (List ℕ) → Type 0

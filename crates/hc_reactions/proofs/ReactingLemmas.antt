@@ -1,13 +1,15 @@
 -- What a request gets at once.
-use Rattle.std.proofs.Common.{◌≡◌, ◌∙◌, ℕ, Bool, Option, Some, None, IfOk, Ok, Err, Result, refl, ap, sym, subst, cond, ◌&&◌, not}
+use Rattle.std.proofs.Common.{◌≡◌, ◌∙◌, ℕ, Bool, true, false, Option, Some, None, IfOk, Ok, Err, Result, refl, ap, sym, subst, cond, ◌&&◌, not}
 use Rattle.hc_head.specs.declared.head.RequestHead.{RequestHead}
 use Rattle.hc_head.specs.declared.head.Target.{Target}
 use Rattle.hc_framing.specs.declared.message.Message.{Message}
 use Rattle.hc_update.specs.declared.stored.Stored.{Stored}
 use Rattle.hc_store.specs.Entries.{Holdings, knows}
+use Rattle.hc_store.proofs.KeyLemmas.{unknown}
+use Rattle.hc_store.proofs.WithinLemmas.{unknown_stays}
 use Rattle.hc_service.specs.declared.cases.Case.{Case as GivenCase}
 use Rattle.hc_service.specs.declared.cases.Cause.{Cause}
-use Rattle.hc_service.specs.Cases.{Case, case_before_store, case_by_store, case_of}
+use Rattle.hc_service.specs.Cases.{Case, case_before_store, case_by_store, case_of, may_wait}
 use Rattle.hc_service.specs.Choices.{Finds}
 use Rattle.hc_service.specs.Reactions.{Reacts, ReactsBy, ReactsByStore, ReactsJoined, ReactsUnlessJoined, chosen_reaction, forward_reaction}
 use Rattle.hc_service.specs.Reactions.Reaction.{Waits}
@@ -67,27 +69,43 @@ reacts_asking wanted target request underway old new (Ok reaction) is gives =
     subst (λ (case : Option Cause). ReactsBy case (record { request = request; target = target; wanted = wanted }) underway old (owed_reaction reaction) new) is gives
 reacts_asking wanted target request underway old new (Err e) is gives = gives
 
--- it waits for the forward of another one
-pub reacts_joined : (wanted : Wanted) (target : Target) (request : Message RequestHead) (underway : OpenNow) (least : Option ℕ) (old new : Holdings) (f : ℕ)
+-- who waits knows nothing of the target
+waits_unknown : (joinable known : Bool) (least : Option ℕ) (f : ℕ) → Some f ≡ cond (joinable && not known) least None → known ≡ false
+waits_unknown joinable false least f is = refl
+waits_unknown true true least f is = absurd (cc)
+waits_unknown false true least f is = absurd (cc)
+
+-- it waits for the forward of another one: nothing is stored of its target, so the store that was asked is as it was
+pub reacts_joined : (wanted : Wanted) (target : Target) (request : Message RequestHead) (underway : OpenNow) (least : Option ℕ) (old new : Holdings)
+    (chosen : Option Stored) (known : Bool) (f : ℕ)
     → IsLeast target underway least
-    → Some f ≡ cond (is_joinable request.head && not (knows target old.entries)) least None
-    → new ≡ old
+    → Finds target request.head.fields old chosen new
+    → known ≡ knows target old.entries
+    → Some f ≡ cond (may_wait request.head known) least None
     → ReactsUnlessJoined (record { request = request; target = target; wanted = wanted }) underway old (Waits f) new
-reacts_joined wanted target request underway least old new f is_least is same = record {
+reacts_joined wanted target request underway least old new chosen known f is_least finds this is = record {
   least = least;
   is_least = is_least;
-  reacts = subst (λ (o : Option ℕ). ReactsJoined o (record { request = request; target = target; wanted = wanted }) underway.forwards old (Waits f) new) is (refl, same);
+  reacts = subst (λ (o : Option ℕ). ReactsJoined o (record { request = request; target = target; wanted = wanted }) underway.forwards old (Waits f) new)
+      (is ∙ ap (λ (k : Bool). cond (may_wait request.head k) least None) this) (
+        refl,
+        finds.1 ∙ sym (unknown_stays old target (unknown target old.entries
+            (sym this ∙ waits_unknown (is_joinable request.head) known least f is))),
+      );
 }
 
--- it waits for none, and the store is asked
-pub reacts_alone : {E : Type 0} (wanted : Wanted) (target : Target) (request : Message RequestHead) (underway : OpenNow) (least : Option ℕ) (old new : Holdings) (answer : Result Reaction E)
+-- it waits for none, and what the store chose decides
+pub reacts_alone : {E : Type 0} (wanted : Wanted) (target : Target) (request : Message RequestHead) (underway : OpenNow) (least : Option ℕ) (old new : Holdings)
+    (known : Bool) (answer : Result Reaction E)
     → IsLeast target underway least
-    → None ≡ cond (is_joinable request.head && not (knows target old.entries)) least None
+    → known ≡ knows target old.entries
+    → None ≡ cond (may_wait request.head known) least None
     → IfOk answer (λ reaction. ReactsByStore (record { request = request; target = target; wanted = wanted }) underway.forwards old (owed_reaction reaction) new)
     → IfOk answer (λ reaction. ReactsUnlessJoined (record { request = request; target = target; wanted = wanted }) underway old (owed_reaction reaction) new)
-reacts_alone wanted target request underway least old new (Ok reaction) is_least is gives = record {
+reacts_alone wanted target request underway least old new known (Ok reaction) is_least this is gives = record {
   least = least;
   is_least = is_least;
-  reacts = subst (λ (o : Option ℕ). ReactsJoined o (record { request = request; target = target; wanted = wanted }) underway.forwards old (owed_reaction reaction) new) is gives;
+  reacts = subst (λ (o : Option ℕ). ReactsJoined o (record { request = request; target = target; wanted = wanted }) underway.forwards old (owed_reaction reaction) new)
+      (is ∙ ap (λ (k : Bool). cond (may_wait request.head k) least None) this) gives;
 }
-reacts_alone wanted target request underway least old new (Err e) is_least is gives = gives
+reacts_alone wanted target request underway least old new known (Err e) is_least this is gives = gives

@@ -276,8 +276,14 @@ fn replace_by_store<S: BuildHasher>(
     ensures { IfOk result (λ reply. GivesReplacement (record { wanted = wanted.now; forward = forward.now; cause = cause; response = response.now })
         store.old reply store.new) }
 {
-    let chosen = store.choose(&forward.target, &wanted.asked.fields)?;
-    replacement(alloc, wanted, cause, Some(response.head.status), chosen)
+    let choice = store.choose(&forward.target, &wanted.asked.fields)?;
+    replacement(
+        alloc,
+        wanted,
+        cause,
+        Some(response.head.status),
+        choice.chosen,
+    )
 }
 
 /// The reply in place of an error: what the store chooses, where it may be; else the error.
@@ -383,8 +389,8 @@ fn fail_by_store<S: BuildHasher>(
     requires { wanted.now.moment < end_of_moments }
     ensures { IfOk result (λ reply. FailsByStore wanted.now forward.now.target cause store.old (Replies reply) store.new) }
 {
-    let chosen = store.choose(&forward.target, &wanted.asked.fields)?;
-    failed_reply(alloc, wanted, cause, chosen)
+    let choice = store.choose(&forward.target, &wanted.asked.fields)?;
+    failed_reply(alloc, wanted, cause, choice.chosen)
 }
 
 /// The reply to a request whose forward failed. Where the store was asked before the request went out, for

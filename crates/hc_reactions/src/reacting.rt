@@ -5,12 +5,10 @@ ghost use Rattle.std.specs.Option.{option_copied};
 ghost use Rattle.hc_fields.specs.Numbers.{end_of_moments};
 ghost use Rattle.hc_head.specs.declared.head.RequestHead.{RequestHead};
 ghost use Rattle.hc_head.specs.declared.head.Target.{Target};
-ghost use Rattle.hc_service.specs.Joining.{is_joinable};
 ghost use Rattle.hc_service.specs.State.{Awaited, OpenNow, Table};
-ghost use Rattle.hc_store.specs.Entries.{knows};
-ghost use Rattle.hc_service.specs.Reactions.{Reacts, ReactsByStore, ReactsUnlessJoined, bare, chosen_reaction, forward_anew, forward_reaction, hit_reaction, is_validated_behind, most_background, plain_forward, stored_forward};
+ghost use Rattle.hc_service.specs.Reactions.{Reacts, ReactsUnlessJoined, bare, chosen_reaction, forward_anew, forward_reaction, hit_reaction, is_validated_behind, most_background, plain_forward, stored_forward};
 ghost use Rattle.hc_service.specs.Reactions.Reaction.{Sends};
-ghost use Rattle.hc_service.specs.Cases.{case_of};
+ghost use Rattle.hc_service.specs.Cases.{case_of, may_wait};
 ghost use Rattle.hc_rules.specs.Forwards.{conditional_request};
 ghost use Rattle.hc_reactions.specs.Reacting.{IsOpenBehind, IsUnderway, owed_reaction};
 
@@ -261,37 +259,12 @@ fn chosen_reaction(
     }
 }
 
-/// What a request gets by what is stored.
-fn react_by_store<S: BuildHasher>(
-    alloc: Global,
-    store: &mut Store<S>,
-    wanted: &WantedReply<'_>,
-    target: &Target,
-    request: &Message<RequestHead>,
-    open_behind: OpenBehind,
-) -> Result<Reaction, AllocError>
-    requires { wanted.now.moment < end_of_moments }
-    ensures { (forwards : Table Awaited) → IsOpenBehind target.now forwards open_behind → IfOk result
-        (λ reaction. ReactsByStore (record { request = request.now; target = target.now; wanted = wanted.now }) forwards
-        store.old (owed_reaction reaction) store.new) }
-{
-    let known = store.knows(target);
-    let chosen = store.choose(target, &request.head.fields)?;
-    let case = case_by_store(&request.head.fields, known, chosen, wanted.moment);
-    chosen_reaction(wanted, target, request, open_behind, chosen, case)
-}
-
 /// The forward that a request waits for: of those that it may wait for the least, where nothing is stored of its
 /// target, and what answers another request may answer it.
-fn joined<S: BuildHasher>(
-    store: &Store<S>,
-    target: &Target,
-    request: &Message<RequestHead>,
-    least: Option<u64>,
-) -> Option<u64>
-    ensures { result ≡ (if is_joinable request.now.head && not (knows target.now store.now.entries) then least else None) }
+fn joined(request: &Message<RequestHead>, is_known: bool, least: Option<u64>) -> Option<u64>
+    ensures { result ≡ (if may_wait request.now.head is_known then least else None) }
 {
-    if is_joinable(&request.head) && !store.knows(target) {
+    if is_joinable(&request.head) && !is_known {
         least
     } else {
         None
@@ -299,7 +272,7 @@ fn joined<S: BuildHasher>(
 }
 
 /// What a request gets where no case holds before the store is asked.
-fn react_unless_joined<S: BuildHasher>(
+fn react_by_store<S: BuildHasher>(
     alloc: Global,
     store: &mut Store<S>,
     wanted: &WantedReply<'_>,
@@ -312,9 +285,15 @@ fn react_unless_joined<S: BuildHasher>(
         (λ reaction. ReactsUnlessJoined (record { request = request.now; target = target.now; wanted = wanted.now }) open_now
         store.old (owed_reaction reaction) store.new) }
 {
-    match joined(store, target, request, underway.least_joinable) {
+    let fields = &request.head.fields;
+    let choice = store.choose(target, fields)?;
+    let chosen = choice.chosen;
+    match joined(request, choice.is_known, underway.least_joinable) {
         Some(forward) => Ok(Reaction::Waits { forward }),
-        None => react_by_store(alloc, store, wanted, target, request, underway.behind),
+        None => {
+            let case = case_by_store(fields, choice.is_known, chosen, wanted.moment);
+            chosen_reaction(wanted, target, request, underway.behind, chosen, case)
+        }
     }
 }
 
@@ -338,6 +317,6 @@ pub fn react<S: BuildHasher>(
 {
     match case_before_store(request) {
         Some(cause) => forward_reaction(alloc, wanted, target, request, None, cause),
-        None => react_unless_joined(alloc, store, wanted, target, request, underway),
+        None => react_by_store(alloc, store, wanted, target, request, underway),
     }
 }

@@ -44,8 +44,8 @@ pub fn release<S: BuildHasher>(
 ) -> Result<Option<Message<ResponseHead>>, AllocError>
     ensures { IfOk result (λ reply. GivesRelease wanted.now target.now store.old reply store.new) }
 {
-    let chosen = store.choose(target, &wanted.asked.fields)?;
-    shared_reply(alloc, wanted, chosen)
+    let choice = store.choose(target, &wanted.asked.fields)?;
+    shared_reply(alloc, wanted, choice.chosen)
 }
 
 /// The request by a forward of its own, which has no body.

@@ -70,23 +70,18 @@ pub fn message<H: ShownHead>(message: &Message<H>, out: &mut String) -> Result<(
     show(message.body.as_slice(), out)
 }
 
-/// Writes the number and the name of a fault.
+/// Writes which fault it is.
 pub fn head_fault(fault: HeadFault, out: &mut String) -> Result<(), AllocError> {
-    let number = fault.number();
-    let name = fault.name();
-    write!(out, "fault {number} {name}")
+    write!(out, "fault {fault:?}")
 }
 
-/// Writes the number and the name of a fault, and those of the head's fault.
+/// Writes which fault it is, and of a head's which that is.
 pub fn frame_fault(fault: FrameFault, out: &mut String) -> Result<(), AllocError> {
-    let number = fault.number();
-    let name = fault.name();
-    write!(out, "fault {number} {name}")?;
     match fault {
         FrameFault::Head(fault) => {
-            out.push_str(", head ")?;
+            out.push_str("fault Head, head ")?;
             head_fault(fault, out)
         }
-        _ => Ok(()),
+        fault => write!(out, "fault {fault:?}"),
     }
 }

@@ -31,9 +31,7 @@ fn push_lines(alloc: Global, values: &[Vec<u8>], fields: &mut Fields) -> Result<
 }
 
 fn list_fault(fault: SfFault, out: &mut String) -> Result<(), AllocError> {
-    let number = fault.number();
-    let name = fault.name();
-    write!(out, "fault {number} {name}")
+    write!(out, "fault {fault:?}")
 }
 
 // Writes the members that the lines are, each with a stroke behind it.

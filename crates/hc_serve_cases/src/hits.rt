@@ -4,7 +4,7 @@ use crate::links::Tally;
 use crate::notebook::Notebook;
 use crate::runs::served;
 use crate::scene::{Scene, Site, Ticking, new_core};
-use crate::telling::word_of;
+use crate::telling::say_returned;
 use hc_cases::Unanswered;
 use hc_connection::Connection;
 use hc_core::Core;
@@ -74,7 +74,7 @@ fn say_counts(
     out: &mut String,
 ) -> Result<(), AllocError> {
     if answer.is_err() {
-        out.push_str(word_of(answer))?;
+        say_returned(answer, out)?;
         out.push_str(": ")?;
     }
     write!(out, "client {got} octets, recorder {recorded} octets")

@@ -5,7 +5,7 @@ ghost use Rattle.std.specs.Prelude.{ℕ};
 use crate::questions::{say_clients, say_incidents, say_needed};
 use crate::scene::{core_with, number_of, text_of};
 use crate::steps::{connection_of, happening};
-use crate::telling::word_of;
+use crate::telling::say_returned;
 use hc_cases::Unanswered;
 use hc_core::{Core, CoreFault};
 use hc_drive::{DriveFault, drive};
@@ -14,6 +14,7 @@ use hc_links::{Awaiting, Links, Off};
 use hc_order::{Occurrence, Reason, Receiver};
 use hc_service::{CoreOptions, Event, Happening};
 use std::alloc::{AllocError, Global};
+use std::fmt::Write;
 use std::hash::BuildHasher;
 
 /// Hands a new cache with room for so many connections what happens, one step after another, and writes what each comes
@@ -33,10 +34,7 @@ pub(crate) fn say_room(
     match core_with(alloc, options) {
         Ok(mut core) => say_steps(alloc, &mut core, steps, out),
         Err(CoreFault::Memory) => Err(Unanswered::Memory),
-        Err(fault) => {
-            out.push_str(fault.name())?;
-            Ok(())
-        }
+        Err(fault) => Ok(write!(out, "{fault:?}")?),
     }
 }
 
@@ -85,7 +83,7 @@ fn say_handed(
     out: &mut String,
 ) -> Result<(), Unanswered> {
     let connection = connection_of(&of);
-    out.push_str(handed(alloc, core, of))?;
+    say_returned(handed(alloc, core, of), out)?;
     if let Some(connection) = connection {
         if core.awaits(connection) {
             out.push_str(", awaits")?;
@@ -95,10 +93,10 @@ fn say_handed(
     Ok(())
 }
 
-/// Hands the cache what happens, and returns a word for what that comes to.
-fn handed(alloc: Global, core: &mut Core, of: Happening) -> &'static str {
+/// Hands the cache what happens, and returns what that comes to.
+fn handed(alloc: Global, core: &mut Core, of: Happening) -> Result<(), DriveFault> {
     let mut links = Handing { of: Some(of) };
-    word_of(driven(alloc, core, &mut links))
+    driven(alloc, core, &mut links)
 }
 
 // What `drive` promises is of any links, and costs a check least where it isn't asked of these.

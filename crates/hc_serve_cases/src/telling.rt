@@ -135,18 +135,21 @@ fn say_failed(run: &Outcome, call: u64, whole: &[u8], out: &mut String) -> Resul
 
 /// Writes what was returned, whether the cache is idle, and the verdict on the recording.
 fn say_end(alloc: Global, run: &Outcome, out: &mut String) -> Result<(), Unanswered> {
-    out.push_str(word_of(run.result))?;
+    say_returned(run.result, out)?;
     out.push_str(if run.idle { ", idle, " } else { ", " })?;
     say_verdict(alloc, run.recording.as_slice(), out)
 }
 
-/// A word for what was returned.
-pub(crate) fn word_of(answer: Result<(), DriveFault>) -> &'static str {
+/// Writes what was returned.
+pub(crate) fn say_returned(
+    answer: Result<(), DriveFault>,
+    out: &mut String,
+) -> Result<(), AllocError> {
     match answer {
-        Ok(()) => "served",
-        Err(DriveFault::Client) => "client failed",
-        Err(DriveFault::Recorder) => "recorder failed",
-        Err(DriveFault::Core(fault)) => fault.name(),
+        Ok(()) => out.push_str("served"),
+        Err(DriveFault::Client) => out.push_str("client failed"),
+        Err(DriveFault::Recorder) => out.push_str("recorder failed"),
+        Err(DriveFault::Core(fault)) => write!(out, "{fault:?}"),
     }
 }
 

@@ -1,6 +1,4 @@
 pub mod Settings
-pub mod SettingsNames
-pub mod Names
 pub mod Numbers
 pub mod Asking
 pub mod Serving

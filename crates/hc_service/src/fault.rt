@@ -26,37 +26,6 @@ pub enum StepFault {
     Failed,
 }
 
-impl StepFault {
-    ghost use Rattle.std.specs.Prelude.{◌≡◌};
-    ghost use Rattle.hc_service.specs.Names.{fault_number, fault_name};
-
-    /// The number that stands for the fault in reports.
-    pub fn number(&self) -> u32
-        ensures { result ≡ fault_number self.now }
-    {
-        match self {
-            StepFault::Memory => 1,
-            StepFault::MomentTooLarge => 2,
-            StepFault::UnknownNumber => 3,
-            StepFault::TooManyConnections => 4,
-            StepFault::Failed => 5,
-        }
-    }
-
-    /// The name that stands for the fault in reports.
-    pub fn name(&self) -> &'static str
-        ensures { result.now ≡ fault_name self.now }
-    {
-        match self {
-            StepFault::Memory => "Memory",
-            StepFault::MomentTooLarge => "MomentTooLarge",
-            StepFault::UnknownNumber => "UnknownNumber",
-            StepFault::TooManyConnections => "TooManyConnections",
-            StepFault::Failed => "Failed",
-        }
-    }
-}
-
 impl From<AllocError> for StepFault {
     ghost from_gives = { λ _ e. e ≡ Memory };
 

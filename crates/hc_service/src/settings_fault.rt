@@ -23,35 +23,6 @@ pub enum CoreFault {
     Room,
 }
 
-impl CoreFault {
-    ghost use Rattle.std.specs.Prelude.{◌≡◌};
-    ghost use Rattle.hc_service.specs.SettingsNames.{fault_number, fault_name};
-
-    /// The number that stands for the fault in reports.
-    pub fn number(&self) -> u32
-        ensures { result ≡ fault_number self.now }
-    {
-        match self {
-            CoreFault::Memory => 1,
-            CoreFault::Name => 2,
-            CoreFault::Size => 3,
-            CoreFault::Room => 4,
-        }
-    }
-
-    /// The name that stands for the fault in reports.
-    pub fn name(&self) -> &'static str
-        ensures { result.now ≡ fault_name self.now }
-    {
-        match self {
-            CoreFault::Memory => "Memory",
-            CoreFault::Name => "Name",
-            CoreFault::Size => "Size",
-            CoreFault::Room => "Room",
-        }
-    }
-}
-
 impl From<AllocError> for CoreFault {
     ghost from_gives = { λ _ e. e ≡ Memory };
 

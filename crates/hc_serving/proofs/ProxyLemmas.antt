@@ -9,7 +9,8 @@ use Rattle.hc_service.specs.State.{new_state_with}
 use Rattle.hc_core.specs.Steps.{Cache, StandsFor}
 use Rattle.hc_links.specs.Buffers.{HasGot}
 use Rattle.hc_drive.specs.declared.fault.DriveFault.{DriveFault}
-use Rattle.hc_drive.specs.Crowds.{DriveStage, GivesCrowd, Telling, stage}
+use Rattle.hc_drive.specs.Crowds.{GivesCrowd, Telling}
+use Rattle.hc_drive.specs.Rounds.{DriveStage, stage}
 use Rattle.hc_serving.specs.Proxies.{HasServed, IsExpectedEnd}
 
 -- ---- a new recorder

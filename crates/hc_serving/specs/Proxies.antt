@@ -10,7 +10,8 @@ use Rattle.hc_service.specs.State.{new_state_with}
 use Rattle.hc_core.specs.Steps.{Cache, StandsFor}
 use Rattle.hc_crowd.specs.declared.limits.Limits.{Limits}
 use Rattle.hc_drive.specs.declared.fault.DriveFault.{DriveFault}
-use Rattle.hc_drive.specs.Crowds.{DriveStage, GivesCrowd, IsExpectedOf, Telling, stage}
+use Rattle.hc_drive.specs.Crowds.{GivesCrowd, IsExpectedOf, Telling}
+use Rattle.hc_drive.specs.Rounds.{DriveStage, stage}
 use Rattle.hc_drive.specs.Drives.{answers_by}
 use Rattle.hc_serving.specs.declared.fault.ServeFault.{ServeFault}
 use Rattle.hc_serving.specs.declared.fault.ServeFault.TheVariants as serve

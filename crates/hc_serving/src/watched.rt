@@ -9,7 +9,8 @@ ghost use Rattle.hc_service.specs.Settings.{AreGood};
 ghost use Rattle.hc_service.specs.State.{new_state_with};
 ghost use Rattle.hc_core.specs.Steps.{StandsFor};
 ghost use Rattle.hc_order.specs.Log.{Move};
-ghost use Rattle.hc_drive.specs.Crowds.{GivesCrowd, GivesRecording, stage, telling};
+ghost use Rattle.hc_drive.specs.Crowds.{GivesCrowd, GivesRecording, telling};
+ghost use Rattle.hc_drive.specs.Rounds.{stage};
 ghost use Rattle.hc_notices.specs.Notices.{SaysSome};
 
 use crate::counting::{Bounds, Counting};

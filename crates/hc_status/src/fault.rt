@@ -21,33 +21,6 @@ pub enum SfFault {
     Memory,
 }
 
-impl SfFault {
-    ghost use Rattle.std.specs.Prelude.{◌≡◌};
-    ghost use Rattle.hc_status.specs.Faults.{list_fault_number, list_fault_name};
-
-    /// The number that stands for the fault in reports.
-    pub fn number(&self) -> u32
-        ensures { result ≡ list_fault_number self.now }
-    {
-        match self {
-            SfFault::Syntax => 1,
-            SfFault::InnerList => 2,
-            SfFault::Memory => 3,
-        }
-    }
-
-    /// The name that stands for the fault in reports.
-    pub fn name(&self) -> &'static str
-        ensures { result.now ≡ list_fault_name self.now }
-    {
-        match self {
-            SfFault::Syntax => "Syntax",
-            SfFault::InnerList => "InnerList",
-            SfFault::Memory => "Memory",
-        }
-    }
-}
-
 impl From<AllocError> for SfFault {
     ghost from_gives = { λ _ e. e ≡ list.Memory };
 
@@ -70,29 +43,6 @@ pub enum MarkFault {
     /// Memory was refused.
     #[error("out of memory")]
     Memory,
-}
-
-impl MarkFault {
-    ghost use Rattle.std.specs.Prelude.{◌≡◌};
-    ghost use Rattle.hc_status.specs.Faults.{mark_fault_number, mark_fault_name};
-
-    /// The number that stands for the fault in reports.
-    pub fn number(&self) -> u32
-        ensures { result ≡ mark_fault_number self.now }
-    {
-        match self {
-            MarkFault::Memory => 1,
-        }
-    }
-
-    /// The name that stands for the fault in reports.
-    pub fn name(&self) -> &'static str
-        ensures { result.now ≡ mark_fault_name self.now }
-    {
-        match self {
-            MarkFault::Memory => "Memory",
-        }
-    }
 }
 
 impl From<AllocError> for MarkFault {

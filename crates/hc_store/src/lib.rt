@@ -21,5 +21,5 @@ pub use laws::{
     what_would_set_a_cookie_goes,
 };
 pub use putting::Put;
-pub use store::Store;
+pub use store::{Choice, Store};
 pub use variants::Variants;

@@ -45,6 +45,24 @@ impl<S: BuildHasher> Model for Store<S> {
     ghost invariant = { λ s. (s.weight ≡ entries_weight s.keys.entries) × IsWithin (held s.bytes s.keeps_cookies s.keys) };
 }
 
+/// What a store has for a request.
+#[derive(Clone, Copy)]
+pub struct Choice<'a> {
+    /// Whether something is stored of the target.
+    pub is_known: bool,
+    /// The variant that the request is answered from.
+    pub chosen: Option<&'a Stored>,
+}
+
+/// Which variant of a key is chosen.
+#[derive(Clone, Copy)]
+struct PlaceChoice {
+    /// Whether the key is there.
+    is_known: bool,
+    /// The place of the variant among those of the key.
+    place: Option<usize>,
+}
+
 impl Store<DefaultHasher> {
     ghost use Rattle.hc_store.specs.Entries.{empty};
 
@@ -137,21 +155,15 @@ impl<S: BuildHasher> Store<S> {
         self.keys.iter()
     }
 
-    /// Whether something is stored of the target.
-    pub fn knows(&self, target: &Target) -> bool
-        ensures { result ≡ knows target.now self.now.entries }
-    {
-        self.keys.contains(target)
-    }
-
     /// The place of the variant that is chosen; the key is the most recent then. Where memory was refused,
     /// nothing has changed.
     fn choose_place(
         &mut self,
         target: &Target,
         presented: &Fields,
-    ) -> Result<Option<usize>, AllocError>
-        ensures answer { IfOk result (λ place. option_and_then (slice_get (variants_of target.now self.new.entries)) place
+    ) -> Result<PlaceChoice, AllocError>
+        ensures known { IfOk result (λ choice. choice.is_known ≡ knows target.now self.old.entries) }
+        ensures answer { IfOk result (λ choice. option_and_then (slice_get (variants_of target.now self.new.entries)) choice.place
             ≡ chosen presented.now (variants_of target.now self.old.entries)) }
         ensures ok { OnOk result (self.new ≡ holding (after_choose target.now self.old.entries) self.old) }
         ensures err { OnErr result (self.new ≡ self.old) }
@@ -159,28 +171,34 @@ impl<S: BuildHasher> Store<S> {
     {
         let alloc = *self.keys.allocator();
         let Some(variants) = self.keys.peek(target) else {
-            return Ok(None);
+            return Ok(PlaceChoice {
+                is_known: false,
+                place: None,
+            });
         };
         let place = chosen_place(alloc, variants.as_slice(), presented)?;
         self.keys.promote(target);
-        Ok(place)
+        Ok(PlaceChoice {
+            is_known: true,
+            place,
+        })
     }
 
-    /// The variant of the target that a request with those fields is answered from. The key is the most
-    /// recent then, if it is there. Where memory was refused, nothing has changed; without a Vary line none is
-    /// taken.
-    pub fn choose(
-        &mut self,
-        target: &Target,
-        presented: &Fields,
-    ) -> Result<Option<&Stored>, AllocError>
+    /// The variant of the target that a request with those fields is answered from, and whether anything is
+    /// stored of the target. The key is the most recent then, if it is there. Where memory was refused, nothing
+    /// has changed; without a Vary line none is taken.
+    pub fn choose(&mut self, target: &Target, presented: &Fields) -> Result<Choice<'_>, AllocError>
         ensures* leaves { sem 𝓛 (ends_so S.row S.Hasher.row S.BuildHasher S.Hasher.Hasher self.entry
             (λ n. MatchResult result (λ _. n ≡ holding (after_choose target.now self.old.entries) self.old) (λ _. n ≡ self.old))) }
-        ensures answer { IfOk result (λ answer. option_copied answer ≡ chosen presented.now (variants_of target.now self.old.entries)) }
+        ensures known { IfOk result (λ choice. choice.is_known ≡ knows target.now self.old.entries) }
+        ensures answer { IfOk result (λ choice. option_copied choice.chosen ≡ chosen presented.now (variants_of target.now self.old.entries)) }
         ensures no_vary { has_vary (variants_of target.now self.old.entries) ≡ false → IsOk result }
     {
-        let place = self.choose_place(target, presented)?;
-        Ok(lend(&self.keys, target, place))
+        let found = self.choose_place(target, presented)?;
+        Ok(Choice {
+            is_known: found.is_known,
+            chosen: lend(&self.keys, target, found.place),
+        })
     }
 
     /// The variant of the target that a request with those fields is answered from among those that the

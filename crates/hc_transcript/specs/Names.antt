@@ -1,7 +1,5 @@
--- The numbers and the names of the faults of a transcript, and of those of its conversion.
+-- The numbers and the names of the faults of a transcript.
 use Rattle.std.specs.Prelude.{ℕ, List, codes}
-use Rattle.hc_transcript.specs.declared.converting.ConvertFault.{ConvertFault}
-use Rattle.hc_transcript.specs.declared.converting.ConvertFault.TheVariants as convert
 use Rattle.hc_transcript.specs.declared.fault.RecordFault.{RecordFault}
 use Rattle.hc_transcript.specs.declared.fault.RecordFault.TheVariants.{Opening, Line, Torn, MomentBack, Number, NothingOpen, Message, TooLong, Memory, Cause}
 
@@ -28,11 +26,3 @@ fault_name Message = codes "Message"
 fault_name TooLong = codes "TooLong"
 fault_name Memory = codes "Memory"
 fault_name Cause = codes "Cause"
-
-abbrev pub convert_fault_number : ConvertFault → ℕ
-convert_fault_number (convert.Malformed position fault) = 1
-convert_fault_number convert.Memory = 2
-
-abbrev pub convert_fault_name : ConvertFault → List ℕ
-convert_fault_name (convert.Malformed position fault) = codes "Malformed"
-convert_fault_name convert.Memory = codes "Memory"

@@ -10,7 +10,6 @@ ghost use Rattle.hc_transcript.specs.Transcript.{Splits};
 ghost use Rattle.hc_transcript.specs.Malformed.{BreaksOpening};
 ghost use Rattle.hc_transcript.specs.Standing.{StandsAs};
 ghost use Rattle.hc_transcript.specs.Converting.{IsConverted, FailsBy, line_without_cause, malformed_at, ReadsOne};
-ghost use Rattle.hc_transcript.specs.Names.{convert_fault_name, convert_fault_number};
 
 use crate::fault::RecordFault;
 use crate::format::{Format, format_at, may_open};
@@ -32,28 +31,6 @@ pub enum ConvertFault {
     /// Memory was refused.
     #[error("out of memory")]
     Memory,
-}
-
-impl ConvertFault {
-    /// The number that stands for the fault in reports.
-    pub fn number(&self) -> u32
-        ensures { result ≡ convert_fault_number self.now }
-    {
-        match self {
-            ConvertFault::Malformed(_, _) => 1,
-            ConvertFault::Memory => 2,
-        }
-    }
-
-    /// The name that stands for the fault in reports.
-    pub fn name(&self) -> &'static str
-        ensures { result.now ≡ convert_fault_name self.now }
-    {
-        match self {
-            ConvertFault::Malformed(_, _) => "Malformed",
-            ConvertFault::Memory => "Memory",
-        }
-    }
 }
 
 impl From<AllocError> for ConvertFault {

@@ -77,5 +77,5 @@ pub returns-clause-serves : goal.returns-clause-serves
 returns-clause-serves g c =
     λ text held.
     let all : c.connections.served ≡ c.args.count = omega (arith, c.connections-test.false) in
-    subst (λ (n : ℕ). Serving (g.K.Clock.may_tell c.args.surroundings.now.clock.now) n 0 (ComeSince (g.A.Clients.came c.args.clients.now) (g.A.Clients.came c.connections.clients)) (LeftSince (g.A.Clients.left c.args.clients.now) (g.A.Clients.left c.connections.clients)) (g.R.Link.has_got c.connections.recorder) c.args.core.now c.connections.core text) all
+    subst (λ (n : ℕ). Serving (g.K.Clock.may_tell c.args.surroundings.now.clock.now) (ComeSince (g.A.Clients.came c.args.clients.now) (g.A.Clients.came c.connections.clients)) (LeftSince (g.A.Clients.left c.args.clients.now) (g.A.Clients.left c.connections.clients)) (g.R.Link.has_got c.connections.recorder) n 0 c.args.core.now c.connections.core text) all
     (c.connections.invariant.so_far text held)

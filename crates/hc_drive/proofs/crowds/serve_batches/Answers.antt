@@ -4,9 +4,9 @@ use Rattle.hc_service.specs.declared.fault.StepFault.TheVariants.{Failed}
 use Rattle.hc_order.specs.Passed.{passed}
 use Rattle.hc_links.proofs.KeepingLemmas.{limits_same, limits_stay, recorder_same, recorder_stays}
 use Rattle.hc_drive.specs.declared.fault.DriveFault.TheVariants.{Core}
-use Rattle.hc_drive.specs.Crowds.{stage, telling}
+use Rattle.hc_drive.specs.Crowds.{telling}
 use Rattle.hc_drive.specs.Drives.{texts_given}
-use Rattle.hc_drive.specs.Rounds.{IsRound, MayBreak}
+use Rattle.hc_drive.specs.Rounds.{IsRound, MayBreak, stage}
 use Rattle.hc_drive.specs.Rounds.Break.{BeforeEvent}
 use Rattle.hc_drive.proofs.CrowdLemmas.{all_served, broke_off, idle_on, pause_on, round_on, safe_paused, safe_still, told_of_pause, turns_begin}
 use Rattle.hc_drive.proofs.crowds.serve_batches.Goals as goal
@@ -38,8 +38,7 @@ turns-preserved-then-branch g c = record {
       let f = c.turns.invariant.so_far log text told held in
       let now = telling g.L.Links.tells g.L.Links.shows g.R.Link.has_got g.R.Link.has_kept c.round.new.links c.round.new.recorder in
       round_on f {new = now} c.turns.invariant.laws c.round.new.core (record { shown = c.in_ok-round.ensures.links.shown; kept = c.in_ok-round.ensures.recorder.kept })
-      (subst (λ (n : ℕ). IsRound n (g.L.Links.tells c.round.new.links) (g.R.Link.has_got c.round.new.recorder) c.turns.core c.round.new.core
-      (passed f.so_far.occurrences f.so_far.results log) (text ++ texts_given f.so_far.results))
+      (subst (λ (n : ℕ). IsRound n (g.L.Links.tells c.round.new.links) (g.R.Link.has_got c.round.new.recorder) (stage c.turns.core (passed f.so_far.occurrences f.so_far.results log) (text ++ texts_given f.so_far.results)) c.round.new.core)
       c.turns.invariant.limits.as_many ((rw on at c.in_ok-round.ensures.round) _ _ f.so_far.told f.so_far.held).0);
   limits = limits_stay c.turns.invariant.limits c.in_ok-round.ensures.links.limits;
   recorder = recorder_stays c.turns.invariant.recorder c.in_ok-round.ensures.recorder;

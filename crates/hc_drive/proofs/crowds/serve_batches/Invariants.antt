@@ -1,7 +1,8 @@
 use Rattle.std.proofs.Common.{◌≡◌, ℕ, List}
 use Rattle.hc_order.specs.Log.{Move}
 use Rattle.hc_links.specs.Keeping.{KeepsLimits, KeepsRecorder}
-use Rattle.hc_drive.specs.Crowds.{stage, telling}
+use Rattle.hc_drive.specs.Crowds.{telling}
+use Rattle.hc_drive.specs.Rounds.{stage}
 use Rattle.hc_drive.proofs.CrowdLemmas.{Laws, TurnsSoFar}
 use Rattle.hc_drive.proofs.crowds.serve_batches.Given as goal
 

@@ -1,7 +1,8 @@
 use Rattle.std.proofs.Common.{subst}
 use Rattle.hc_transcript.specs.Records.{opening}
 use Rattle.hc_service.specs.Sending.{recorded_format}
-use Rattle.hc_drive.specs.Crowds.{stage, telling}
+use Rattle.hc_drive.specs.Crowds.{telling}
+use Rattle.hc_drive.specs.Rounds.{stage}
 use Rattle.hc_drive.proofs.CrowdLemmas.{recorded, still_told}
 use Rattle.hc_drive.proofs.crowds.serve_crowd.Goals as goal
 

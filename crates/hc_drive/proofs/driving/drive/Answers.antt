@@ -4,7 +4,7 @@ use Rattle.hc_service.specs.declared.fault.StepFault.TheVariants.{Failed}
 use Rattle.hc_drive.specs.declared.fault.DriveFault.TheVariants.{Core}
 use Rattle.hc_order.specs.Passed.{passed}
 use Rattle.hc_drive.specs.Drives.{most_rounds, texts_given}
-use Rattle.hc_drive.specs.Rounds.{IsRound, MayBreak}
+use Rattle.hc_drive.specs.Rounds.{IsRound, MayBreak, stage}
 use Rattle.hc_drive.specs.Rounds.Break.{BeforeEvent}
 use Rattle.hc_links.proofs.KeepingLemmas.{links_same, links_stay, recorder_same, recorder_stays}
 use Rattle.hc_drive.proofs.DriveLemmas.{begins, breaks, broke_off, ended, goes_on, late_all, made_all, never_late}
@@ -27,7 +27,7 @@ rounds-preserved g c = record {
       c.runs_go_on.ensures.counted c.what_may_happen_in_turn_is_served.ensures.usual c.what_may_happen_in_turn_is_served.ensures.mirrors (g.L.Links.most c.args.links.now)
       (g.L.Links.tells c.rounds.links) (g.L.Links.tells c.round.new.links) (g.R.Link.has_got c.rounds.recorder) (g.R.Link.has_got c.round.new.recorder)
       _ _ c.round.new.core log text _ f
-      (subst (λ (n : ℕ). IsRound n (g.L.Links.tells c.round.new.links) (g.R.Link.has_got c.round.new.recorder) c.rounds.core c.round.new.core (passed f.occurrences f.results log) (text ++ texts_given f.results))
+      (subst (λ (n : ℕ). IsRound n (g.L.Links.tells c.round.new.links) (g.R.Link.has_got c.round.new.recorder) (stage c.rounds.core (passed f.occurrences f.results log) (text ++ texts_given f.results)) c.round.new.core)
       c.rounds.invariant.links.limits.as_many ((rw on at c.in_ok-round.ensures.round) _ _ f.told f.held).0);
   links = links_stay c.rounds.invariant.links c.in_ok-round.ensures.links;
   recorder = recorder_stays c.rounds.invariant.recorder c.in_ok-round.ensures.recorder;

@@ -1,5 +1,5 @@
 use Rattle.hc_history.proofs.AllowedLemmas.{strict_alike}
-use Rattle.hc_history.proofs.StrictLemmas.{answered_strictly, counted, rightly, wrongly}
+use Rattle.hc_history.proofs.StrictLemmas.{answered_strictly, counted, rightly, verdict_strictly, wrongly}
 use Rattle.hc_history.proofs.laws.nothing_allowed_is_strict.Goals as goal
 
 pub returns-clause-right : goal.returns-clause-right
@@ -10,6 +10,9 @@ returns-clause-wrong c = λ format settings h item why none. wrongly format sett
 
 pub returns-clause-counts : goal.returns-clause-counts
 returns-clause-counts c = λ format settings h none. counted format settings none h
+
+pub returns-clause-verdict : goal.returns-clause-verdict
+returns-clause-verdict c = λ octets settings verdict none. verdict_strictly octets settings none verdict
 
 pub returns-clause-filters : goal.returns-clause-filters
 returns-clause-filters c = λ inferred claim kept none. strict_alike claim inferred none kept

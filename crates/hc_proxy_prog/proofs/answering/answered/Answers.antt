@@ -1,10 +1,9 @@
 use Rattle.std.proofs.Common.{false, inl, map, None, subst}
 use Rattle.clap.specs.declared.error.ErrorKind.{ErrorKind}
 use Rattle.hc_options.specs.Commands.{IsErrorStatus}
-use Rattle.hc_arguments.specs.Tasks.{task_of}
+use Rattle.hc_arguments.specs.Tasks.{plain_proxy_task, task_of}
 use Rattle.hc_arguments.specs.Tasks.Task.{ToServe, ToProxy}
-use Rattle.hc_arguments.specs.Cache.{keys_proxied, keys_served, plain_cache}
-use Rattle.hc_arguments.specs.Limits.{plain_limits, plain_terms}
+use Rattle.hc_arguments.specs.Cache.{keys_served, plain_cache}
 use Rattle.hc_arguments.proofs.ArgumentLemmas.{asked_from, one_task}
 use Rattle.hc_proxy_prog.proofs.EndLemmas.{does_as, does_ends, fails_with_3}
 use Rattle.hc_proxy_prog.proofs.answering.answered.Goals as goal
@@ -16,7 +15,7 @@ returns-in-Ok-clause-serve g c = λ name listen origin number file connections o
 
 pub returns-in-Ok-clause-proxy : goal.returns-in-Ok-clause-proxy
 returns-in-Ok-clause-proxy g c = λ name listen origin one same.
-    does_as (task_of c.in-Ok.order) (ToProxy listen origin None None None plain_terms plain_limits false (plain_cache keys_proxied)) _ _ _ _
+    does_as (task_of c.in-Ok.order) (ToProxy (plain_proxy_task listen origin)) _ _ _ _
     (c.in-Ok.ensures.proxy name listen origin one same) c.done.ensures
 
 pub returns-in-Ok-clause-asked : goal.returns-in-Ok-clause-asked

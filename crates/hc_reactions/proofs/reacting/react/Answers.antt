@@ -9,5 +9,5 @@ returns-in-Some g c = λ underway is.
 
 pub returns-in-None : goal.returns-in-None
 returns-in-None g c = λ underway is.
-    reacts_asking c.args.wanted.now c.args.target.now c.args.request.now underway _ _ c.react_unless_joined.result
-    c.in-None.ensures (c.react_unless_joined.ensures underway is)
+    reacts_asking c.args.wanted.now c.args.target.now c.args.request.now underway _ _ c.react_by_store.result
+    c.in-None.ensures (c.react_by_store.ensures underway is)

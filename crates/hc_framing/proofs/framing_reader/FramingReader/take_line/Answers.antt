@@ -1,7 +1,7 @@
 use Rattle.std.proofs.Common.{ℕ, ◌+◌, ◌++◌, length, take, refl, arith, ap, sym, subst, ◌∙◌}
 use Rattle.hc_framing.specs.declared.fault.FrameFault.{FrameFault}
 use Rattle.hc_framing.specs.declared.framing.Framing.{Framing}
-use Rattle.hc_framing.specs.Names.{of_chunk}
+use Rattle.hc_framing.specs.ChunkFaults.{of_chunk}
 use Rattle.hc_framing.specs.declared.framing_reader.FramingStage.TheVariants as at
 use Rattle.hc_framing.specs.ChunkLines.{BeginsChunkLine}
 use Rattle.hc_framing.specs.Bodies.{SaysTooLong}

@@ -1,4 +1,4 @@
-use Rattle.std.proofs.Common.{rules, sym}
+use Rattle.std.proofs.Common.{rules}
 use Rattle.std.proofs.lemmas.Result.{on_ok_weaker}
 use Rattle.hc_index.specs.declared.list_index.ListIndex.{ListIndex}
 use Rattle.hc_index.proofs.NoteLemmas.{notes_answer}
@@ -10,20 +10,17 @@ returns c =
       alloc = c.args.self.now.alloc;
       lives = c.begin_live.new.lives;
       exchanges = c.add_to_windows.new.exchanges;
-      forwards = c.remove.new.self;
-      forwarded = c.args.self.now.forwarded;
+      forwards = c.take.new.self;
       errors = c.keep_error.new.positions;
       failures = c.args.self.now.failures;
     } in
     on_ok_weaker c.begin_live.result
     (λ begun. notes_answer c.args.format c.args.self.now new c.in-Some.forward c.args.number c.args.position c.args.moment c.args.response c.answer_lives.new.lives.items (record {
-      was_open = sym c.in-Some.ensures.value;
-      forwards = λ f. search rules;
+      forwards = c.in-Some.ensures;
       errors = c.in_ok-keep_error.ensures;
       exchanges = rw c.told_in-cause.ensures at c.in_ok-add_to_windows.ensures;
       answered = c.in_ok-answer_lives.ensures;
       begun = begun;
       failures = search rules;
-      forwarded = search rules;
     }))
     c.begin_live.ensures

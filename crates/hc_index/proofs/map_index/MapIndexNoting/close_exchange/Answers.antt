@@ -1,4 +1,4 @@
-use Rattle.std.proofs.Common.{rules, refl}
+use Rattle.std.proofs.Common.{rules}
 use Rattle.hc_index.specs.declared.map_index.MapIndex.{MapIndex}
 use Rattle.hc_index.proofs.MapLemmas.{notes_reply}
 use Rattle.hc_index.proofs.map_index.MapIndexNoting.close_exchange.Goals as goal
@@ -9,13 +9,11 @@ returns-in-Some c =
       alloc = c.args.self.now.alloc;
       targets = c.close_at.new.targets;
       exchanges = c.remove.new.self;
-      forwards = c.args.self.now.forwards;
-      forwarded = c.begin_anew.new.forwarded;
+      forwards = c.begin_anew.new.self;
     } in
     λ format position moment reply. notes_reply format c.args.self.now c.args.number position moment reply c.in-Some.pooled.exchange.target new
     (record {
       exchanges = λ e. search rules;
       targets = c.close_at.ensures;
-      forwards = refl;
-      forwarded = c.begin_anew.ensures;
+      forwards = c.begin_anew.ensures;
     })

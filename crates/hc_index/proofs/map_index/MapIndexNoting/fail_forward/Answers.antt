@@ -1,4 +1,4 @@
-use Rattle.std.proofs.Common.{rules, refl, sym}
+use Rattle.std.proofs.Common.{refl}
 use Rattle.std.proofs.lemmas.Result.{on_ok_weaker}
 use Rattle.hc_index.specs.declared.map_index.MapIndex.{MapIndex}
 use Rattle.hc_index.proofs.MapLemmas.{notes_failure}
@@ -10,16 +10,13 @@ returns c =
       alloc = c.args.self.now.alloc;
       targets = c.fail_at.new.targets;
       exchanges = c.args.self.now.exchanges;
-      forwards = c.remove.new.self;
-      forwarded = c.args.self.now.forwarded;
+      forwards = c.take.new.self;
     } in
     λ format moment. on_ok_weaker c.fail_at.result
     (λ changes. notes_failure format c.args.self.now c.in-Some.forward c.args.number c.args.position moment new
     (record {
-      was_open = sym c.in-Some.ensures.value;
-      forwards = λ f. search rules;
+      forwards = c.in-Some.ensures;
       targets = changes;
       exchanges = refl;
-      forwarded = refl;
     }))
     c.fail_at.ensures

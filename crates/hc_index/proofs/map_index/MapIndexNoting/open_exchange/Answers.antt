@@ -14,14 +14,12 @@ returns c =
       alloc = c.args.self.now.alloc;
       targets = c.open_at.new.targets;
       exchanges = c.insert.new.self;
-      forwards = c.args.self.now.forwards;
-      forwarded = c.begin_anew.new.forwarded;
+      forwards = c.begin_anew.new.self;
     } in
     λ format moment body. notes_request format c.args.self.now c.args.number c.args.position moment (record { head = c.args.request; body = body }) pooled new
     (record {
       exchanges = λ e. search rules;
       targets = c.in_ok-behind.ensures;
-      forwards = refl;
-      forwarded = c.begin_anew.ensures;
+      forwards = c.begin_anew.ensures;
     })
     refl

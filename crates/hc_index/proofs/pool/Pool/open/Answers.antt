@@ -1,6 +1,6 @@
 use Rattle.std.proofs.Common.{◌≡◌, ◌+◌, ◌-◌, ◌≤◌, length, drop, rules, arith, ap, refl, ◌∙◌}
 use Rattle.std.specs.Prelude.{map}
-use Rattle.hc_index.specs.Maps.{told_seen}
+use Rattle.hc_index.specs.Windows.{told_seen}
 use Rattle.hc_index.proofs.PoolLemmas.{all_within, apart, opened, none_behind}
 use Rattle.hc_index.proofs.pool.Pool.open.Goals as goal
 

@@ -5,12 +5,13 @@ use Rattle.hc_store.proofs.store.Store.choose.Goals as goal
 
 pub returns : goal.returns
 returns g c = (
-  (refl, (λ _. tt), c.self.view_is ∙ c.in_ok-place.ensures.ok),
+  (refl, (λ _. tt), c.self.view_is ∙ c.in_ok-found.ensures.ok),
   record {
     leaves = tt;
+    known = c.in_ok-found.ensures.known;
     answer = c.lend.ensures
-        ∙ ap (λ (h : Holdings). option_and_then (slice_get (variants_of c.args.target.now h.entries)) c.in_ok-place.place) c.self.view_is
-        ∙ c.in_ok-place.ensures.answer;
+        ∙ ap (λ (h : Holdings). option_and_then (slice_get (variants_of c.args.target.now h.entries)) c.in_ok-found.found.place) c.self.view_is
+        ∙ c.in_ok-found.ensures.answer;
     no_vary = λ _. refl;
   },
 )

@@ -1,5 +1,5 @@
 use Rattle.std.proofs.Common.{◌≡◌, ◌∷◌, List, false, sym, ap, ◌∙◌, subst}
-use Rattle.hc_store.specs.Entries.{Entries, Holdings, IsWithin, entries_weight, variants_of}
+use Rattle.hc_store.specs.Entries.{Entries, Holdings, IsWithin, entries_weight, knows, variants_of}
 use Rattle.std.specs.Prelude.{option_and_then, slice_get}
 use Rattle.lru.specs.LruCache.{promoted}
 use Rattle.hc_head.specs.Targets.{same_target}
@@ -18,6 +18,11 @@ returns-in_default-clause-ok g c =
     let target = c.args.target.now in let store = held c.self.inside.bytes c.self.inside.keeps_cookies c.self.inside.keys in
     subst (λ (h : Holdings). h ≡ holding (after_choose target h.entries) h) c.self.view_is
     (unknown_stays store target (unknown target store.entries (not_known target store.entries c.in_default.ensures)))
+
+pub returns-in_default-clause-known : goal.returns-in_default-clause-known
+returns-in_default-clause-known g c =
+    let target = c.args.target.now in
+    sym (not_known target c.self.inside.keys.entries c.in_default.ensures) ∙ ap (λ (h : Holdings). knows target h.entries) c.self.view_is
 
 pub returns-in_err-place-clause-no_vary : goal.returns-in_err-place-clause-no_vary
 returns-in_err-place-clause-no_vary g c = λ none.
@@ -42,6 +47,12 @@ returns-clause-ok g c =
     let entries = ap (λ k. k.entries) c.promote.ensures.entries ∙ chosen_is target keys.entries c.in-Some.variants.now is c.self.invariant.1.few_variants in
     holdings_are bytes c.self.inside.keeps_cookies entries (ap (λ k. k.cap) c.promote.ensures.entries)
     ∙ ap (λ (h : Holdings). holding (after_choose target h.entries) h) c.self.view_is
+
+pub returns-clause-known : goal.returns-clause-known
+returns-clause-known g c =
+    let target = c.args.target.now in
+    let is = known target c.self.inside.keys.entries c.in-Some.variants.now (sym c.in-Some.ensures) in
+    sym is.is_known ∙ ap (λ (h : Holdings). knows target h.entries) c.self.view_is
 
 pub returns-clause-answer : goal.returns-clause-answer
 returns-clause-answer g c =
