@@ -1,12 +1,13 @@
 -- The values of a name among lines of which a test by name keeps some.
 use Rattle.std.proofs.Common.{◌≡◌, ℕ, Bool, true, false, cond, ◌||◌, List, [], ◌∷◌, ◌++◌, refl, sym, ap, ◌∙◌, append-nil}
-use Rattle.std.specs.Prelude.{filter}
+use Rattle.std.specs.Prelude.{filter, Some, None}
 use Rattle.std.specs.Str.{bytes_eq}
 use Rattle.std.proofs.lemmas.Bool.{cond-false}
+use Rattle.std.proofs.lemmas.List.Folds.{list_any-append}
 use Rattle.std.proofs.lemmas.Slice.Eq.{bytes_eq-Decides}
 use Rattle.hc_fields.specs.declared.fields.Field.{Field}
-use Rattle.hc_fields.specs.Values.{values_of, has_name}
-use Rattle.hc_fields.proofs.UpdateLemmas.{values_append}
+use Rattle.hc_fields.specs.Values.{values_of, has_name, only, only_value}
+use Rattle.hc_fields.proofs.UpdateLemmas.{values_append, values_absent}
 
 -- a name that the test keeps has the values that it had
 pub values_kept : (test : List ℕ → Bool) (name : List ℕ) (fields : List Field) → test name ≡ true
@@ -89,3 +90,22 @@ some_value name (f ∷ fields) value more e = go (bytes_eq f.name name) (some_va
         → cond same (f.value ∷ values_of name fields) (values_of name fields) ≡ value ∷ more → (same || has_name name fields) ≡ true
     go true some e = refl
     go false some e = some e
+
+-- a line among some or behind them has a name where one among them or one behind them has it
+pub has_name_append : (name : List ℕ) (xs ys : List Field) → has_name name (xs ++ ys) ≡ (has_name name xs || has_name name ys)
+has_name_append name xs ys = list_any-append (λ f. bytes_eq f.name name) xs ys
+
+-- a value is the only one where no line behind it has the name
+pub one_value : (name : List ℕ) (all behind : List Field) (value : List ℕ) → values_of name all ≡ value ∷ values_of name behind
+    → has_name name behind ≡ false → only_value name all ≡ Some value
+one_value name all behind value first none =
+    ap only first ∙ ap (λ (vs : List (List ℕ)). only (value ∷ vs)) (values_absent name behind none)
+
+-- none is the only one where another line behind it has the name
+pub several_values : (name : List ℕ) (all behind : List Field) (value : List ℕ) → values_of name all ≡ value ∷ values_of name behind
+    → has_name name behind ≡ true → only_value name all ≡ None
+several_values name all behind value first there = ap only first ∙ go (values_of name behind) refl
+  where
+    go : (others : List (List ℕ)) → values_of name behind ≡ others → only (value ∷ others) ≡ None
+    go [] e = absurd (let other = no_value name behind e in cc)
+    go (other ∷ others) e = refl

@@ -80,6 +80,13 @@ fn keep_in(lines: &mut Vec<Field>, name: &[u8])
     lines.retain(|line| line.name.as_slice() == name)
 }
 
+/// Whether one of those lines has the name.
+pub(crate) fn has_line(lines: &[Field], name: &[u8]) -> bool
+    ensures { result ≡ has_name name.now lines.now }
+{
+    lines.iter().any(|line| line.name.as_slice() == name)
+}
+
 /// Removes the lines of the names that the others have.
 fn remove_names_of(lines: &mut Vec<Field>, others: &Fields)
     ensures names { lines.new.items ≡ filter (λ f. not (has_name f.name others.now)) lines.old.items }
@@ -162,7 +169,7 @@ impl Fields {
     pub fn contains(&self, name: &[u8]) -> bool
         ensures { result ≡ has_name name.now self.now }
     {
-        self.lent().contains(name)
+        has_line(self.lines(), name)
     }
 
     /// The values of the lines of that name, in order. The name is one in lower case.

@@ -5,7 +5,7 @@ ghost use Rattle.hc_fields.specs.declared.fields.Field.{Field};
 ghost use Rattle.hc_fields.specs.Values.{has_name, joined_values, line, only_value, values_of};
 ghost use Rattle.hc_fields.specs.Views.{line_at, piece};
 
-use crate::fields::{Field, Fields, Values};
+use crate::fields::{Field, Fields, Values, has_line};
 use crate::octets::Octets;
 use std::alloc::{AllocError, Global};
 use std::marker::Model;
@@ -164,11 +164,11 @@ impl<'a> FieldsView<'a> {
     }
 
     /// Whether there is a line of that name.
-    #[tactic(auto, using(crate::proofs::ValueLemmas::no_value, crate::proofs::ValueLemmas::some_value))]
+    #[tactic(auto, using(crate::proofs::ValueLemmas::has_name_append, crate::proofs::ValueLemmas::no_value, crate::proofs::ValueLemmas::some_value))]
     pub fn contains(&self, name: &[u8]) -> bool
         ensures { result ≡ has_name name.now self.now }
     {
-        self.again().pass_to(name).is_some()
+        has_line(self.owned, name) || first_lent(self.spans, self.names, name).is_some()
     }
 
     /// The values of the lines of that name, in order. The name is one in lower case.
@@ -183,12 +183,13 @@ impl<'a> FieldsView<'a> {
 
     /// The value of the line of that name, where there is exactly one. The name is one in lower
     /// case.
+    #[tactic(auto, using(crate::proofs::ValueLemmas::one_value, crate::proofs::ValueLemmas::several_values))]
     pub fn only(&self, name: &'a [u8]) -> Option<&'a [u8]>
         ensures { option_copied result ≡ only_value name.now self.now }
     {
-        let mut values = self.values(name);
-        let value = values.next()?;
-        if values.next().is_some() {
+        let mut rest = self.again();
+        let value = rest.pass_to(name)?;
+        if rest.contains(name) {
             return None;
         }
         Some(value)

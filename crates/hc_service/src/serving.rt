@@ -97,7 +97,7 @@ fn is_fresh_enough(asked: &Fields, stored: &Stored, moment: u64) -> bool
 {
     let lifetime = lifetime_of(stored);
     let age = age_at(stored, moment);
-    is_fresh(stored, moment)
+    fresh(lifetime, age)
         && allows_left(
             lifetime.saturating_sub(age),
             seconds_said(b"min-fresh", asked),

@@ -1,8 +1,8 @@
 -- What a store holds, and how much that weighs.
-use Rattle.std.specs.Prelude.{◌≡◌, ℕ, ◌+◌, ◌<◌, ◌≤◌, Bool, true, not, ◌||◌, List, [], codes, length, unwrap_or}
+use Rattle.std.specs.Prelude.{◌≡◌, ℕ, ◌+◌, ◌<◌, ◌≤◌, Bool, true, not, ◌||◌, List, [], codes, length, slice_get, unwrap_or}
 use Rattle.std.specs.List.{sum_by, AllByRecursion, IsDistinct}
 use Rattle.std.specs.Map.{keys_of, values_of, lookup}
-use Rattle.std.specs.Option.{is_some}
+use Rattle.std.specs.Option.{is_some, option_map_or}
 use Rattle.hc_fields.specs.declared.fields.Field.{Field}
 use Rattle.hc_fields.specs.Values.{has_name}
 use Rattle.hc_head.specs.declared.head.Target.{Target}
@@ -21,6 +21,10 @@ knows target entries = is_some (lookup (same_target target) entries)
 -- what is stored of a target
 abbrev pub variants_of : Target → Entries → List Stored
 variants_of target entries = unwrap_or (lookup (same_target target) entries) []
+
+-- what is stored of the most recent key
+abbrev pub recent_variants : Entries → List Stored
+recent_variants entries = option_map_or (λ entry. entry.1) (slice_get entries 0) []
 
 -- what holds of each response, with its target
 abbrev pub AllHeld : (Target → Stored → Type 0) → Entries → Type 0

@@ -2,7 +2,7 @@
 
 ghost use Rattle.std.specs.Prelude.{◌≡◌, ◌<◌, ◌≤◌, ◌-◌, true, false, length, option_and_then, option_copied, slice_get, IfOk, IsOk, OnOk, OnErr};
 ghost use Rattle.lru.specs.LruCache.{lru_cache};
-ghost use Rattle.hc_store.specs.Entries.{HasFewVariants, entries_weight, knows, most_variants, variants_of, weight};
+ghost use Rattle.hc_store.specs.Entries.{HasFewVariants, entries_weight, knows, most_variants, recent_variants, variants_of, weight};
 ghost use Rattle.hc_store.specs.Changes.{after_put, without};
 ghost use Rattle.hc_store.specs.Calls.{Freshens, grows, has_vary};
 ghost use Rattle.hc_store.specs.Trims.{dropped_weight, without_empty};
@@ -184,5 +184,17 @@ pub(crate) fn lend<'a, S: BuildHasher>(
 {
     let place = place?;
     let variants = keys.peek(target)?;
+    variants.as_slice().get(place)
+}
+
+/// The variant of the most recent key at a place.
+pub(crate) fn lend_of_recent<S: BuildHasher>(
+    keys: &LruCache<Target, Variants, S>,
+    place: Option<usize>,
+) -> Option<&Stored>
+    ensures { option_copied result ≡ option_and_then (slice_get (recent_variants keys.now.entries)) place }
+{
+    let place = place?;
+    let (_, variants) = keys.peek_mru()?;
     variants.as_slice().get(place)
 }

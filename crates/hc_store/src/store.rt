@@ -5,7 +5,7 @@ ghost use Rattle.hc_store.specs.Views.{held};
 use crate::choosing::{chosen_place, chosen_validated_place};
 use crate::cookies::may_hold;
 use crate::freshening::NotModified;
-use crate::keys::{freshen_key, lend, put_in, remove_key};
+use crate::keys::{freshen_key, lend, lend_of_recent, put_in, remove_key};
 use crate::putting::Put;
 use crate::variants::Variants;
 use crate::weights::is_small_enough;
@@ -116,7 +116,7 @@ impl<S: BuildHasher> Store<S> {
     ghost use Rattle.std.specs.Map.Iter.{ShowsInOrder, deref_pair};
     ghost use Rattle.hc_head.specs.declared.head.Target.{Target};
     ghost use Rattle.hc_update.specs.declared.stored.Stored.{Stored};
-    ghost use Rattle.hc_store.specs.Entries.{HasDistinctKeys, knows, variants_of};
+    ghost use Rattle.hc_store.specs.Entries.{HasDistinctKeys, knows, recent_variants, variants_of};
     ghost use Rattle.hc_store.specs.Choosing.{chosen, chosen_validated};
     ghost use Rattle.hc_store.specs.Changes.{after_choose};
     ghost use Rattle.hc_store.specs.Calls.{Freshens, Puts, has_vary, holding, invalidated};
@@ -163,7 +163,7 @@ impl<S: BuildHasher> Store<S> {
         presented: &Fields,
     ) -> Result<PlaceChoice, AllocError>
         ensures known { IfOk result (λ choice. choice.is_known ≡ knows target.now self.old.entries) }
-        ensures answer { IfOk result (λ choice. option_and_then (slice_get (variants_of target.now self.new.entries)) choice.place
+        ensures answer { IfOk result (λ choice. option_and_then (slice_get (recent_variants self.new.entries)) choice.place
             ≡ chosen presented.now (variants_of target.now self.old.entries)) }
         ensures ok { OnOk result (self.new ≡ holding (after_choose target.now self.old.entries) self.old) }
         ensures err { OnErr result (self.new ≡ self.old) }
@@ -197,7 +197,7 @@ impl<S: BuildHasher> Store<S> {
         let found = self.choose_place(target, presented)?;
         Ok(Choice {
             is_known: found.is_known,
-            chosen: lend(&self.keys, target, found.place),
+            chosen: lend_of_recent(&self.keys, found.place),
         })
     }
 

@@ -1,5 +1,5 @@
 use Rattle.std.proofs.Common.{◌≡◌, ◌∷◌, List, false, sym, ap, ◌∙◌, subst}
-use Rattle.hc_store.specs.Entries.{Entries, Holdings, IsWithin, entries_weight, knows, variants_of}
+use Rattle.hc_store.specs.Entries.{Entries, Holdings, IsWithin, entries_weight, knows, recent_variants, variants_of}
 use Rattle.std.specs.Prelude.{option_and_then, slice_get}
 use Rattle.lru.specs.LruCache.{promoted}
 use Rattle.hc_head.specs.Targets.{same_target}
@@ -9,7 +9,7 @@ use Rattle.hc_store.specs.Changes.{after_choose, without}
 use Rattle.hc_store.specs.Calls.{has_vary, holding}
 use Rattle.hc_store.specs.Views.{held}
 use Rattle.hc_store.proofs.AddLemmas.{true_is_false}
-use Rattle.hc_store.proofs.KeyLemmas.{first_variants, holdings_are, known, not_known, unknown}
+use Rattle.hc_store.proofs.KeyLemmas.{holdings_are, known, not_known, unknown}
 use Rattle.hc_store.proofs.WithinLemmas.{choose_within, choose_weighs, chosen_is, unknown_stays}
 use Rattle.hc_store.proofs.store.Store.choose_place.Goals as goal
 
@@ -61,8 +61,8 @@ returns-clause-answer g c =
     let is = known target keys.entries old (sym c.in-Some.ensures) in
     let first : c.promote.new.self.entries ≡ (target, old) ∷ without target keys.entries =
     ap (λ k. k.entries) c.promote.ensures.entries ∙ sym (ap (promoted (same_target target)) is.same) ∙ is.first old in
-    ap (λ (l : Entries). option_and_then (slice_get (variants_of target l)) c.in_ok-place.place) first
-    ∙ ap (λ (vs : List Stored). option_and_then (slice_get vs) c.in_ok-place.place) (first_variants target old (without target keys.entries) ∙ sym c.as_slice.ensures)
+    ap (λ (l : Entries). option_and_then (slice_get (recent_variants l)) c.in_ok-place.place) first
+    ∙ ap (λ (vs : List Stored). option_and_then (slice_get vs) c.in_ok-place.place) (sym c.as_slice.ensures)
     ∙ c.in_ok-place.ensures.answer
     ∙ ap (chosen presented) (c.as_slice.ensures ∙ sym is.variants)
     ∙ ap (λ (h : Holdings). chosen presented (variants_of target h.entries)) c.self.view_is
