@@ -1,6 +1,6 @@
 //! What is remembered of the records before a reply: how the forwards ended.
 
-ghost use Rattle.std.specs.Prelude.{◌≡◌, ◌&&◌, ◌||◌, not, [], None, Some, IfOk, OnOk, bytes_eq, option_and_then, option_copied, if◌then◌else◌};
+ghost use Rattle.std.specs.Prelude.{◌≡◌, ◌&&◌, ◌||◌, not, [], None, Some, IfOk, IfSome, OnOk, bytes_eq, option_and_then, option_copied, if◌then◌else◌};
 ghost use Rattle.hc_use.specs.Forbidding.{forbids_nothing, forbids_of};
 ghost use Rattle.std.specs.Option.{option_map};
 ghost use Rattle.hc_head.specs.Targets.{same_target};
@@ -369,8 +369,23 @@ impl Past {
         let mut end = End::begun(self.alloc, record_of(passed, kind), sent, forward)?;
         self.take_answer(&mut end, &forward.request, response)?;
         self.make_room();
+        self.share_latest(passed.index);
         self.ends.push_back(end)?;
         Ok(())
+    }
+
+    // Has the body of the latest end in the memory of what the index keeps of the answer, where that has the same. The index
+    // knows of it by now, so that each body is copied, and then shared, once.
+    fn share_latest<I: Index>(&mut self, index: &I)
+        ensures asked { (h : List Item) (one : Target) → HasAsked one h self.old → HasAsked one h self.new }
+        ensures ends { (one : Target) (ends : List EndSeen) → Remembers one ends self.old → Remembers one ends self.new }
+        ensures known { (one : Target) (sent : ℕ → Option RecordName) (known : List EndKnown) → RemembersKnown one sent known self.old → RemembersKnown one sent known self.new }
+        ensures latest { (most : ℕ) (ends : List EndSeen) → RemembersLatest most ends self.old → RemembersLatest most ends self.new }
+        ensures forbidden { (all : List (Target × Forbids)) → RemembersForbidden all self.old → RemembersForbidden all self.new }
+    {
+        if let Some(latest) = self.ends.pop_back() {
+            self.ends.push_back_reserved(latest.sharing(index));
+        }
     }
 
     // Takes in what is remembered of the answer to that request, if there is one: where one target alone is, all of it.
@@ -504,6 +519,29 @@ impl End {
             body: None,
             heads: None,
         })
+    }
+
+    // The body in the memory of what the index keeps of the answer, where that has the same.
+    fn shared_body<I: Index>(&self, index: &I) -> Option<SharedOctets>
+        ensures { IfSome result (λ shared. self.now.body ≡ Some shared) }
+    {
+        let body = self.body.as_ref()?;
+        let kept = index.response(&self.target, self.named.position)?;
+        if kept.body.as_slice() != body.as_slice() {
+            return None;
+        }
+        kept.body.share().ok()
+    }
+
+    // The same end, of which the index and this share the body, where they can.
+    fn sharing<I: Index>(mut self, index: &I) -> End
+        ensures seen { end_seen result ≡ end_seen self }
+        ensures known { end_known result ≡ end_known self }
+    {
+        if let Some(shared) = self.shared_body(index) {
+            self.body = Some(shared);
+        }
+        self
     }
 
     /// Whether it is of that target.

@@ -18,7 +18,7 @@ returns-clause-ends g c = λ h one ends before behind.
     let passed = c.args.passed.now in
     let number = item_number passed.item.now in
     let forward = c.in-Some.forward.now in
-    let room = c.make_room.ensures.ends one ends (c.in_ok-take_answer.ensures.kept one ends record { one_target = before.one_target; all = before.all }) in
+    let room = c.share_latest.ensures.ends one ends (c.make_room.ensures.ends one ends (c.in_ok-take_answer.ensures.kept one ends record { one_target = before.one_target; all = before.all })) in
     let begun = ap (λ (n : RecordName). end_by n forward.cause None (forward_seen forward)) c.record_of.ensures in
     let ended = c.in_ok-take_answer.ensures.taken (ap is_some before.one_target) in
     record {
@@ -39,8 +39,8 @@ returns-clause-latest g c = λ h ends before behind.
     let name = named_as c.args.kind passed.position number (moment_of passed.item.now) in
     let answer = option_copied c.args.response in
     let end = end_by name forward.cause answer (forward_seen forward) in
-    let room = c.make_room.ensures.latest ends (c.in_ok-take_answer.ensures.latest most_ends ends
-    record { all_targets = before.all_targets; latest = before.latest; forgotten = before.forgotten }) in
+    let room = c.share_latest.ensures.latest 1023 ends (c.make_room.ensures.latest ends (c.in_ok-take_answer.ensures.latest most_ends ends
+    record { all_targets = before.all_targets; latest = before.latest; forgotten = before.forgotten })) in
     let begun = c.in_ok-end.ensures.seen ∙ ap (λ (n : RecordName). end_by n forward.cause None (forward_seen forward)) c.record_of.ensures in
     let short = short_ended name forward.cause answer (forward_seen forward) _ _ begun
     (c.in_ok-take_answer.ensures.short before.all_targets (ap (λ (e : EndSeen). e.body) begun)) in
@@ -51,8 +51,8 @@ returns-clause-latest g c = λ h ends before behind.
       all_targets = room.all_targets;
       latest = ap (map end_seen) c.in_ok-push_back.ensures.items
           ∙ map-append end_seen _ _
-          ∙ ap (λ (e : EndSeen). map end_seen c.make_room.new.self.ends.items ++ e ∷ []) short
-          ∙ adds ends (map end_seen c.make_room.new.self.ends.items) end most_ends 1023 refl room.latest
+          ∙ ap (λ (e : EndSeen). map end_seen c.share_latest.new.self.ends.items ++ e ∷ []) short
+          ∙ adds ends (map end_seen c.share_latest.new.self.ends.items) end most_ends 1023 refl room.latest
           ∙ ap (λ (es : List EndSeen). drop (length es - most_ends) (map short_end es)) (sym all);
       forgotten = room.forgotten ∙ same_place ends end most_ends 1023 refl
           ∙ ap (λ (es : List EndSeen). last_place (take (length es - most_ends) es)) (sym all);
@@ -70,7 +70,7 @@ returns-clause-known g c = λ h one before behind.
           gone_at number f _ _ ((rw c.number-number.ensures at c.remove-sent.ensures.updates.0 f) ∙ ap (λ (o : Option RecordName). cond (is_at (nat_cmp number) f) None o) (before.sent_now f));
       all = before.all;
     } in
-    let room = c.make_room.ensures.known one _ _ kept in
+    let room = c.share_latest.ensures.known one _ _ (c.make_room.ensures.known one _ _ kept) in
     let sent = (rw c.number-number.ensures at c.remove-sent.ensures.value) ∙ before.sent_now number ∙ sent_is one.path (forward_of number h) (sent_of number h) (forward_seen forward) asked same in
     record {
       one_target = room.one_target;
